@@ -115,8 +115,8 @@ never_large r only same =
     elim two [ inl e ↦ cc | inr e ↦ cc ]
 
 -- it takes no byte
-pub took_nothing : (left : Option (List ℕ)) → TookAtMost 1048576 left left
-took_nothing left = record { bytes = []; few = omega arith; front = preceded-nil left }
+pub took_nothing : (limit : ℕ) (left : Option (List ℕ)) → TookAtMost limit left left
+took_nothing limit left = record { bytes = []; few = omega arith; front = preceded-nil left }
 
 -- what it did
 faults_is : (r : Result (Unit {0}) RunFault) → IfErr r (λ f. (f ≡ fault.WriteFault) ⊎ (f ≡ fault.NoMemory)) → (status_of r ≡ status.Done) ⊎ (status_of r ≡ status.WriteFault) ⊎ (status_of r ≡ status.NoMemory)

@@ -20,14 +20,22 @@ first_letter _ = 0
 same_command : (a b : Command) → HasNumbers a → HasNumbers b → command_words a ≡ command_words b → a ≡ b
 same_command command.Run command.Run h k e = refl
 same_command command.Run command.Brief h k e = cc
+same_command command.Run command.Check h k e = cc
 same_command command.Run (command.Make s n) h k e = cc
 same_command command.Run (command.Load s n) h k e = cc
 same_command command.Brief command.Run h k e = cc
 same_command command.Brief command.Brief h k e = refl
+same_command command.Brief command.Check h k e = let same : ◌≡◌ {A = ℕ} 98 99 = ap first_letter e in absurd (omega arith)
 same_command command.Brief (command.Make s n) h k e = cc
 same_command command.Brief (command.Load s n) h k e = cc
+same_command command.Check command.Run h k e = cc
+same_command command.Check command.Brief h k e = let same : ◌≡◌ {A = ℕ} 99 98 = ap first_letter e in absurd (omega arith)
+same_command command.Check command.Check h k e = refl
+same_command command.Check (command.Make s n) h k e = cc
+same_command command.Check (command.Load s n) h k e = cc
 same_command (command.Make s n) command.Run h k e = cc
 same_command (command.Make s n) command.Brief h k e = cc
+same_command (command.Make s n) command.Check h k e = cc
 same_command (command.Make s n) (command.Make t m) h k e =
     let seed : s ≡ t = same_seed s t n m h k cc in
     let size : n ≡ m = same_size s t n m h k cc in
@@ -35,6 +43,7 @@ same_command (command.Make s n) (command.Make t m) h k e =
 same_command (command.Make s n) (command.Load t m) h k e = let same : ◌≡◌ {A = ℕ} 109 108 = ap first_letter e in absurd (omega arith)
 same_command (command.Load s n) command.Run h k e = cc
 same_command (command.Load s n) command.Brief h k e = cc
+same_command (command.Load s n) command.Check h k e = cc
 same_command (command.Load s n) (command.Make t m) h k e = let same : ◌≡◌ {A = ℕ} 108 109 = ap first_letter e in absurd (omega arith)
 same_command (command.Load s n) (command.Load t m) h k e =
     let seed : s ≡ t = same_seed s t n m h k cc in
@@ -44,7 +53,11 @@ same_command (command.Load s n) (command.Load t m) h k e =
 pub one_reading : (words : List (List ℕ)) (a b : Command) → IsReading words a → IsReading words b → a ≡ b
 one_reading words a b one other = same_command a b one.numbers other.numbers (sym one.same ∙ other.same)
 
--- so what holds of a reading's numbers holds of those of another
+-- so what holds of a reading's command holds of that of another
+pub of_reading : (P : Command → Type 0) (words : List (List ℕ)) (a b : Command) → IsReading words a → IsReading words b → P a → P b
+of_reading P words a b one other holds = subst P (one_reading words a b one other) holds
+
+-- and of its numbers
 pub same_made : (P : ℕ → ℕ → Type 0) (words : List (List ℕ)) (s n seed size : ℕ) → IsReading words (command.Make s n) → IsReading words (command.Make seed size) → P s n → P seed size
 same_made P words s n seed size one other holds =
     let same = one_reading words (command.Make s n) (command.Make seed size) one other in

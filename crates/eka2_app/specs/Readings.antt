@@ -8,6 +8,7 @@ use Rattle.eka2_app.specs.declared.words.Command.TheVariants as command
 abbrev pub command_words : Command → List (List ℕ)
 command_words command.Run = codes "run" ∷ []
 command_words command.Brief = codes "brief" ∷ []
+command_words command.Check = codes "check" ∷ []
 command_words (command.Make seed size) = codes "make" ∷ decimal seed ∷ decimal size ∷ []
 command_words (command.Load seed size) = codes "load" ∷ decimal seed ∷ decimal size ∷ []
 
@@ -20,6 +21,7 @@ pub record IsInRange (seed size : ℕ) : Type 0 where
 abbrev pub HasNumbers : Command → Type 0
 HasNumbers command.Run = Unit {0}
 HasNumbers command.Brief = Unit {0}
+HasNumbers command.Check = Unit {0}
 HasNumbers (command.Make seed size) = IsInRange seed size
 HasNumbers (command.Load seed size) = IsInRange seed size
 
@@ -27,3 +29,8 @@ HasNumbers (command.Load seed size) = IsInRange seed size
 pub record IsReading (words : List (List ℕ)) (command : Command) : Type 0 where
   pub same : words ≡ command_words command
   pub numbers : HasNumbers command
+
+-- the most bytes that a command reads: a script, or a script with a history behind it
+abbrev pub most_bytes : Command → ℕ
+most_bytes command.Check = 16777216
+most_bytes _ = 1048576

@@ -1,5 +1,8 @@
 //! The plain machine and the kernel make one history of a script, and leave the same objects.
-ghost use Rattle.std.specs.Prelude.{◌≡◌, [], IfOk, IfSome};
+ghost use Rattle.std.specs.Prelude.{◌≡◌, [], false, IfOk, IfSome};
+ghost use Rattle.machine.specs.History.{after};
+ghost use Rattle.machine.specs.Task.{is_able};
+ghost use Rattle.kcore.specs.KernelMode.{Fresh, Suits};
 ghost use Rattle.script_types.specs.Source.{IsWellFormed};
 
 use crate::server_tests::DYING_SERVER_SCRIPT;
@@ -16,30 +19,30 @@ use script_types::{Limits, Script};
 use std::alloc::Global;
 use std::process::Abort;
 use std::test::Fail;
-use sym_base::{NoMemory, ObjNo};
+use sym_base::{NoMemory, ObjNo, ThreadNo};
 
 /// Rows are asked from each number below it. The scripts make fewer objects.
 const NUMBERS: u16 = 16;
 
 /// The bytes of a line, its line feed among them.
-type Line = ArrayVec<u8, 512>;
+pub type Line = ArrayVec<u8, 512>;
 
 /// The line of an entry.
-fn line_of_entry(entry: &Entry) -> Line {
+pub fn line_of_entry(entry: &Entry) -> Line {
     let mut line = Line::new();
     let _ = entry_text(entry, &mut line);
     line
 }
 
 /// The line of an object that is left.
-fn line_of_row(row: &FinalRow) -> Line {
+pub fn line_of_row(row: &FinalRow) -> Line {
     let mut line = Line::new();
     let _ = final_text(row, &mut line);
     line
 }
 
 /// The script of a text.
-fn script_of(alloc: Global, text: &str) -> Option<Script>
+pub fn script_of(alloc: Global, text: &str) -> Option<Script>
     ensures { IfSome result IsWellFormed }
 {
     if text.len() > Limits::INPUT {
@@ -67,7 +70,7 @@ fn make_plain(alloc: Global, script: Script) -> Result<Plain, NoMemory>
 }
 
 /// The plain machine after a text's schedule.
-fn plain_after(alloc: Global, text: &str) -> Option<Plain> {
+pub fn plain_after(alloc: Global, text: &str) -> Option<Plain> {
     match script_of(alloc, text) {
         Some(script) => make_plain(alloc, script).ok(),
         None => None,
@@ -75,7 +78,7 @@ fn plain_after(alloc: Global, text: &str) -> Option<Plain> {
 }
 
 /// The kernel after a text's schedule.
-fn kernel_after(alloc: Global, text: &str) -> Option<Kernel<PlainWords>> {
+pub fn kernel_after(alloc: Global, text: &str) -> Option<Kernel<PlainWords>> {
     match script_of(alloc, text) {
         Some(script) => make_history(alloc, script).ok(),
         None => None,
@@ -83,7 +86,7 @@ fn kernel_after(alloc: Global, text: &str) -> Option<Kernel<PlainWords>> {
 }
 
 /// Whether two entries have one line.
-fn is_same_entry(one: &Entry, other: &Entry) -> bool {
+pub fn is_same_entry(one: &Entry, other: &Entry) -> bool {
     line_of_entry(one).as_slice() == line_of_entry(other).as_slice()
 }
 
@@ -154,6 +157,7 @@ fn short_kernel(alloc: Global, script: Script) -> Result<Kernel<PlainWords>, NoM
     requires { IsWellFormed script }
     ensures room { IfOk result (λ kernel. kernel.room ≡ 1) }
     ensures empty { IfOk result (λ kernel. kernel.history ≡ []) }
+    ensures fresh { IfOk result (λ kernel. kernel.mode ≡ Fresh) }
 {
     let words = PlainWords::new(alloc, PLACES)?;
     Kernel::boot(alloc, script, words, 1)
@@ -164,6 +168,7 @@ fn short_kernel(alloc: Global, script: Script) -> Result<Kernel<PlainWords>, NoM
 fn dying_kernel(alloc: Global) -> Option<Kernel<PlainWords>>
     ensures room { IfSome result (λ kernel. kernel.room ≡ 1) }
     ensures empty { IfSome result (λ kernel. kernel.history ≡ []) }
+    ensures fresh { IfSome result (λ kernel. kernel.mode ≡ Fresh) }
 {
     match script_of(alloc, DYING_SCRIPT) {
         Some(script) => short_kernel(alloc, script).ok(),
@@ -179,13 +184,22 @@ fn first_line(history: &[Entry]) -> Line {
     }
 }
 
+/// Whether a thread may act, if nobody shares the kernel.
+fn is_able(kernel: &Kernel<PlainWords>, thread: ThreadNo) -> bool
+    requires { Suits false kernel.now.mode }
+    ensures { result ≡ is_able kernel.now.script (after kernel.now.script kernel.now.history) thread }
+{
+    kernel.able(thread)
+}
+
 /// The last thread of the script acts, which the schedule would choose later.
 fn expect_act<R: Abort>(rt: &R, kernel: &mut Kernel<PlainWords>)
     requires room { kernel.old.room ≡ 1 }
     requires empty { kernel.old.history ≡ [] }
+    requires fresh { kernel.old.mode ≡ Fresh }
 {
-    assert!(rt; !kernel.able(ObjNo(1)));
-    assert!(rt; kernel.able(ObjNo(4)));
+    assert!(rt; !is_able(kernel, ObjNo(1)));
+    assert!(rt; is_able(kernel, ObjNo(4)));
     kernel.act(ObjNo(4));
     assert_eq!(rt; kernel.history().len(), 1);
     assert_eq!(rt;

@@ -10,7 +10,7 @@ use std::test::Fail;
 const KILLED_SCRIPT: &str =
     "eka2 1\nidfc w device d0 0\nirq 0 idfc w\nprocess ps\nthread sv 20\nserver files r0\nreceive r0 m0\ncomplete m0 0\nreceive r0 m1\nread m1 0 0 100 0\npeek 63\npeek 64\nprocess pc\nthread c 10\nfill 0 100 65\nconnect files 1 r0\ncall r0 1 d:0:100:100 0 0 0\nprocess pz\nthread z 30\nopen thread c r0\nrequest d0 s0\nwaitany\nkill r0 4\nschedule\ngo 28\nirq 0\ngo 16\nend\n";
 
-const KILLED_HISTORY: &str = "\
+pub const KILLED_HISTORY: &str = "\
 1 t7 open.seek seek:5
 2 t7 open.return +tmp7:5
 3 t7 open.do +p6.0:5 = 65536

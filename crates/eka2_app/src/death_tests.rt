@@ -33,10 +33,11 @@ end
 ";
 
 /// A thread was found by its name, and before it is opened it dies.
-const DEAD_THREAD_SCRIPT: &str =
+pub const DEAD_THREAD_SCRIPT: &str =
     "eka2 1\nidfc w device d0 0\nirq 0 idfc w\nprocess p\nthread h 20\nopen thread c r0\nrequest d0 s0\nwaitany\nkill r0 4\nthread c 10\nopen thread h r1\nschedule\ngo 7\nirq 0\ngo 13\nend\n";
 
-const DEAD_THREAD_HISTORY: &str = "\
+/// Its history.
+pub const DEAD_THREAD_HISTORY: &str = "\
 1 t3 open.seek seek:4
 2 t3 open.return +tmp3:4
 3 t3 open.do +p2.0:4 = 65536

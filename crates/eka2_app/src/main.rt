@@ -1,7 +1,9 @@
-//! The command `eka2`: runs scripts on the kernel model and prints their histories and the objects that are left, and
-//! makes scripts.
+//! The command `eka2`: runs scripts on the kernel model and prints their histories and the objects that are left, checks
+//! histories, and makes scripts.
 #![tactic(auto)]
 
+#[cfg(test)]
+mod check_tests;
 #[cfg(test)]
 mod command_tests;
 #[cfg(test)]
@@ -15,6 +17,10 @@ mod fault_tests;
 #[cfg(test)]
 mod server_tests;
 mod status;
+#[cfg(test)]
+mod storm_tables;
+#[cfg(test)]
+mod storm_tests;
 #[cfg(test)]
 mod tests;
 mod top;

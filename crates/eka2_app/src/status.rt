@@ -1,8 +1,9 @@
 //! How the command ends.
 ghost use Rattle.std.specs.Prelude.{◌≡◌};
 ghost use Rattle.std.specs.Option.{option_copied};
-ghost use Rattle.eka2_app.specs.StatusNumber.{status_number, status_message, status_of};
+ghost use Rattle.eka2_app.specs.StatusNumber.{status_number, status_message, status_of, status_of_check};
 
+use history_check::Checked;
 use script_read::RunFault;
 
 /// How the command ended.
@@ -20,8 +21,10 @@ pub enum Status {
     WriteFault,
     /// Memory that was asked for wasn't given; nothing was written.
     NoMemory,
-    /// The input has more than the 1,048,576 bytes that a script may have.
+    /// The input has more bytes than the command takes.
     TooLarge,
+    /// The history that was checked isn't legal, and one line that says so was written.
+    Illegal,
 }
 
 impl Status {
@@ -39,6 +42,18 @@ impl Status {
         }
     }
 
+    /// How the check of a history ended, or that it met a fault.
+    pub fn of_check(outcome: Result<Checked, RunFault>) -> Status
+        ensures { result ≡ status_of_check outcome }
+    {
+        match outcome {
+            Ok(Checked::Legal { .. }) => Status::Done,
+            Ok(Checked::Illegal { .. }) => Status::Illegal,
+            Ok(Checked::NoMemory) => Status::NoMemory,
+            Err(fault) => Status::of(Err(fault)),
+        }
+    }
+
     /// The number that the process ends with.
     pub fn number(self) -> u8
         ensures { result ≡ status_number self }
@@ -51,6 +66,7 @@ impl Status {
             Status::WriteFault => 5,
             Status::NoMemory => 6,
             Status::TooLarge => 7,
+            Status::Illegal => 8,
         }
     }
 
@@ -66,6 +82,7 @@ impl Status {
             Status::WriteFault => Some("write fault"),
             Status::NoMemory => Some("no memory"),
             Status::TooLarge => Some("too large"),
+            Status::Illegal => Some("illegal"),
         }
     }
 }

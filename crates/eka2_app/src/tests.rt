@@ -10,7 +10,8 @@ use std::test::Fail;
 pub const SCRIPT: &str =
     "eka2 1\nprocess p\nthread a 10\ncreate mutex m r0\ndup r0 r1\nclose r0\nclose r1\nclose r1\nschedule\ngo 16\nend\n";
 
-const HISTORY: &str = "\
+/// Its history.
+pub const HISTORY: &str = "\
 1 t3 create.do +p2.0:4 = 65536
 2 t3 dup.look +tmp3:4
 3 t3 dup.do +p2.1:4 = 65537
@@ -101,13 +102,13 @@ fn source_of(alloc: Global, case: &Case<'_>) -> Result<MemSource, AllocError> {
 }
 
 /// An empty sink, of which some writes fail.
-fn sink_of(alloc: Global, failing_writes: &[u32]) -> Result<MemSink, AllocError> {
+pub fn sink_of(alloc: Global, failing_writes: &[u32]) -> Result<MemSink, AllocError> {
     let fails = Vec::from_slice(alloc, failing_writes)?;
     MemSink::new(alloc, 2000, 600, fails)
 }
 
 /// Runs words over a source and a sink, and compares the status and what was written.
-fn expect_run<R: Abort>(
+pub fn expect_run<R: Abort>(
     rt: &R,
     alloc: Global,
     words: &[String],

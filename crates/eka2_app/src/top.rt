@@ -1,9 +1,9 @@
 //! The command as a whole.
-ghost use Rattle.std.specs.Prelude.{◌≡◌, ◌≢◌, ◌↔◌, ℕ, map};
+ghost use Rattle.std.specs.Prelude.{◌≡◌, ◌≢◌, ◌↔◌, ◌+◌, ℕ, map};
 ghost use Rattle.std.specs.String.{string_bytes};
 ghost use Rattle.edge_io.specs.Faults.{Rose};
-ghost use Rattle.eka2_app.specs.Outcomes.{RanScript, WroteText};
-ghost use Rattle.eka2_app.specs.Readings.{IsReading};
+ghost use Rattle.eka2_app.specs.Outcomes.{CheckedHistory, RanScript, WroteText};
+ghost use Rattle.eka2_app.specs.Readings.{IsReading, most_bytes};
 ghost use Rattle.runner.specs.Complete.{Stayed};
 ghost use Rattle.runner.specs.Inputs.{Took, TookAtMost};
 ghost use Rattle.runner.specs.MadeText.{made_text, load_text};
@@ -12,11 +12,12 @@ ghost use Rattle.runner.specs.RunText.{run_text, brief_text};
 use crate::status::Status;
 use crate::words::{Command, command_of};
 use edge_io::{Sink, Source};
-use runner::{run_brief, run_load, run_schedule, write_made};
+use runner::{run_brief, run_check, run_load, run_schedule, write_made};
 use std::alloc::Global;
 
 /// Does what the words behind the program's name ask for. `run` and `brief` read a script from the source and write
-/// its history to the sink, in whole or in brief. `make` and `load`, with a seed and a size, make a script, and write
+/// its history to the sink, in whole or in brief. `check` reads a script and a history behind it, and writes whether that
+/// is legal. `make` and `load`, with a seed and a size, make a script, and write
 /// it or what its run comes to. All other words are Usage. What is said of the input holds where the source tells its
 /// bytes, and what is said of the text where the sink does.
 pub fn eka2_main<S: Source, K: Sink>(
@@ -37,6 +38,9 @@ pub fn eka2_main<S: Source, K: Sink>(
     ensures brief { IsReading (map string_bytes words.now) Command.Brief
         → RanScript brief_text (S.left source.old) (S.left source.new) (K.written sink.old) (K.written sink.new)
         (Stayed (S.faults source.old) (S.faults source.new)) (Stayed (K.faults sink.old) (K.faults sink.new)) result }
+    ensures check { IsReading (map string_bytes words.now) Command.Check
+        → CheckedHistory (S.left source.old) (S.left source.new) (K.written sink.old) (K.written sink.new)
+        (Stayed (S.faults source.old) (S.faults source.new)) (Stayed (K.faults sink.old) (K.faults sink.new)) result }
     ensures make { (seed : ℕ) → (size : ℕ) → IsReading (map string_bytes words.now) (Command.Make seed size)
         → WroteText (made_text seed size) (K.written sink.old) (K.written sink.new) (Stayed (K.faults sink.old) (K.faults sink.new)) result }
     ensures make_reads_nothing { (seed : ℕ) → (size : ℕ) → IsReading (map string_bytes words.now) (Command.Make seed size)
@@ -46,9 +50,11 @@ pub fn eka2_main<S: Source, K: Sink>(
     ensures load_reads_nothing { (seed : ℕ) → (size : ℕ) → IsReading (map string_bytes words.now) (Command.Load seed size)
         → source.new ≡ source.old }
 
-    // TooLarge exactly where more bytes were taken than a script may have.
-    ensures large { result ≡ Status.TooLarge → Took 1048577 (S.left source.old) (S.left source.new) }
-    ensures few { result ≢ Status.TooLarge → TookAtMost 1048576 (S.left source.old) (S.left source.new) }
+    // TooLarge exactly if more bytes were taken than the command reads.
+    ensures large { (command : Command) → IsReading (map string_bytes words.now) command → result ≡ Status.TooLarge
+        → Took (most_bytes command + 1) (S.left source.old) (S.left source.new) }
+    ensures few { (command : Command) → IsReading (map string_bytes words.now) command → result ≢ Status.TooLarge
+        → TookAtMost (most_bytes command) (S.left source.old) (S.left source.new) }
 
     // A fault comes only where its count rose.
     ensures read_fault { result ≡ Status.ReadFault → Rose (S.faults source.old) (S.faults source.new) }
@@ -65,6 +71,7 @@ pub fn eka2_main<S: Source, K: Sink>(
     match command {
         Command::Run => Status::of(run_schedule(alloc, source, sink)),
         Command::Brief => Status::of(run_brief(alloc, source, sink)),
+        Command::Check => Status::of_check(run_check(alloc, source, sink)),
         Command::Make { seed, size } => Status::of(write_made(alloc, seed, size, sink)),
         Command::Load { seed, size } => Status::of(run_load(alloc, seed, size, sink)),
     }

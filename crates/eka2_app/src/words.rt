@@ -18,6 +18,8 @@ pub enum Command {
     Run,
     /// Runs a script and prints the part of its history that has answers.
     Brief,
+    /// Says whether a history of a script is legal.
+    Check,
     /// Makes a script from a seed and prints it.
     Make { seed: u64, size: u32 },
     /// Makes a script from a seed, runs it, and prints what the run comes to.
@@ -71,6 +73,7 @@ fn command_of_word(word: &str) -> Option<Command>
     match word {
         "run" => Some(Command::Run),
         "brief" => Some(Command::Brief),
+        "check" => Some(Command::Check),
         _ => None,
     }
 }

@@ -1,6 +1,7 @@
+mod CheckedInputs
 mod Judged
-mod Rows
 mod Runs
+mod ScriptPart
 mod Shown
 mod Taken
 mod Texts

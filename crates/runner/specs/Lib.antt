@@ -1,3 +1,4 @@
+pub mod Checking
 pub mod Complete
 pub mod Inputs
 pub mod MadeText

@@ -1,8 +1,9 @@
 -- What the run of a script prints, in whole and in brief.
 use Rattle.std.specs.List.{filter}
-use Rattle.std.specs.Prelude.{◌≡◌, ℕ, Bool, true, is_some, List}
+use Rattle.std.specs.Prelude.{◌≡◌, ℕ, Bool, true, false, is_some, List}
 use Rattle.entry_log.specs.HistoryText.{history_text}
 use Rattle.entry_log.specs.declared.entry.Entry.{Entry}
+use Rattle.kcore.specs.KernelMode.{Suits}
 use Rattle.kcore.specs.KernelView.{KernelView}
 use Rattle.machine.specs.FinalRows.{final_rows}
 use Rattle.machine.specs.History.{after}
@@ -36,7 +37,8 @@ abbrev pub shown_text : Detail → Script → List ℕ
 shown_text detail.Whole = run_text
 shown_text detail.Brief = brief_text
 
--- a kernel that has made the whole history of a script
-pub record HasRun (wanted : Script) (kernel : KernelView) : Type 0 where
+-- a kernel that has made the whole history of a script, for one caller alone
+pub record HasRun {W : Type 0} (wanted : Script) (kernel : KernelView W) : Type 0 where
   pub script : kernel.script ≡ wanted
   pub history : kernel.history ≡ run wanted
+  pub alone : Suits false kernel.mode

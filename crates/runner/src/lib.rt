@@ -3,6 +3,7 @@
 #![tactic(auto)]
 
 mod brief;
+mod check;
 mod detail;
 mod history;
 mod input;
@@ -13,8 +14,11 @@ mod output;
 mod run;
 mod schedule;
 mod summary;
+mod verdict;
+mod whole;
 
 pub use brief::run_brief;
+pub use check::run_check;
 pub use history::{PLACES, make_history};
 pub use load::run_load;
 pub use make::write_made;

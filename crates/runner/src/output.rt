@@ -1,11 +1,12 @@
 //! Writing a history, or the line of a refusal. Each line goes out with its line feed, by one `write_whole`.
-ghost use Rattle.std.specs.Prelude.{◌≡◌, ◌≤◌, [], ◌∷◌, drop, is_some, length, OnOk, OnErr};
+ghost use Rattle.std.specs.Prelude.{◌≡◌, ◌≤◌, [], ◌∷◌, drop, false, is_some, length, OnOk, OnErr};
 ghost use Rattle.std.specs.List.{flat_map};
 ghost use Rattle.edge_io.specs.Faults.{Rose};
 ghost use Rattle.edge_io.specs.Written.{Wrote, WrotePrefix};
 ghost use Rattle.entry_log.specs.EntryLine.{entry_line};
 ghost use Rattle.entry_log.specs.FinalLine.{final_line};
 ghost use Rattle.entry_log.specs.HistoryText.{history_text};
+ghost use Rattle.kcore.specs.KernelMode.{Suits};
 ghost use Rattle.machine.specs.FinalRows.{final_rows};
 ghost use Rattle.machine.specs.History.{after, IsLegal};
 ghost use Rattle.runner.specs.RunText.{shown};
@@ -13,6 +14,7 @@ ghost use Rattle.script_read.specs.Refusal.{refusal_text};
 ghost use Rattle.script_types.specs.Source.{IsWellFormed};
 
 use crate::detail::Detail;
+use crate::whole::{history, next_row};
 use arrayvec::ArrayVec;
 use edge_io::{Failed, Sink, write_whole};
 use entry_log::{Entry, FinalRow, entry_text, final_text};
@@ -121,6 +123,7 @@ fn write_rows<K: Sink>(
     kernel: &Kernel<PlainWords>,
 ) -> Result<(), Failed>
     requires valid { IsWellFormed kernel.now.script }
+    requires alone { Suits false kernel.now.mode }
     ensures whole { OnOk result (Wrote (K.written sink.old) (K.written sink.new)
         (flat_map final_line (final_rows (after kernel.now.script kernel.now.history)))) }
     ensures front { OnErr result (WrotePrefix (K.written sink.old) (K.written sink.new)
@@ -130,7 +133,7 @@ fn write_rows<K: Sink>(
     ensures never_falls { K.faults sink.old ≤ K.faults sink.new }
 {
     let mut from = 0;
-    while let Some(row) = kernel.next_row(from) {
+    while let Some(row) = next_row(kernel, from) {
         put_row(line, &row);
         write_whole(sink, line.as_slice())?;
         from = row.object.0 + 1;
@@ -146,6 +149,7 @@ pub fn write_history<K: Sink>(
     kernel: &Kernel<PlainWords>,
 ) -> Result<(), Failed>
     requires valid { IsWellFormed kernel.now.script }
+    requires alone { Suits false kernel.now.mode }
     ensures whole { OnOk result (Wrote (K.written sink.old) (K.written sink.new)
         (history_text (shown detail kernel.now.history) (final_rows (after kernel.now.script kernel.now.history)))) }
     ensures front { OnErr result (WrotePrefix (K.written sink.old) (K.written sink.new)
@@ -156,7 +160,7 @@ pub fn write_history<K: Sink>(
     ensures never_falls { K.faults sink.old ≤ K.faults sink.new }
 {
     let mut line = Line::new();
-    write_entries(sink, &mut line, detail, kernel.history())?;
+    write_entries(sink, &mut line, detail, history(kernel))?;
     write_whole(sink, b"objects\n")?;
     write_rows(sink, &mut line, kernel)?;
     write_whole(sink, b"end\n")

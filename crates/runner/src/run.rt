@@ -20,7 +20,7 @@ use crate::output::{write_history, write_refusal};
 use edge_io::{Sink, Source};
 use script_grammar::is_well_formed;
 use script_read::{ReadScript, RunFault, read_script};
-use script_types::Script;
+use script_types::{Limits, Script};
 use std::alloc::Global;
 
 /// Runs a script and writes its history, or the part that the detail shows. Nothing is written before the whole history is made.
@@ -88,7 +88,7 @@ pub fn run_shown<S: Source, K: Sink>(
         → Stayed (S.faults source.old) (S.faults source.new)
         → (result ≡ Err RunFault.TooLarge) ⊎ (result ≡ Err RunFault.NoMemory) }
 {
-    let input = read_input(alloc, source)?;
+    let input = read_input(alloc, source, Limits::INPUT)?;
     match read_script(alloc, input.as_slice()) {
         ReadScript::Script(script) => {
             is_well_formed(&script);

@@ -1,8 +1,9 @@
 //! What a run comes to.
 ghost use Rattle.std.specs.List.{count_by, sum_by};
-ghost use Rattle.std.specs.Prelude.{◌≡◌, ◌+◌, ◌*◌, ◌<◌, ◌≤◌, ◌++◌, length, decimal, is_some, OnOk, OnErr};
+ghost use Rattle.std.specs.Prelude.{◌≡◌, ◌+◌, ◌*◌, ◌<◌, ◌≤◌, ◌++◌, length, decimal, false, is_some, OnOk, OnErr};
 ghost use Rattle.edge_io.specs.Faults.{Rose};
 ghost use Rattle.edge_io.specs.Written.{Wrote, WrotePrefix};
+ghost use Rattle.kcore.specs.KernelMode.{Suits};
 ghost use Rattle.machine.specs.FinalRows.{final_rows};
 ghost use Rattle.machine.specs.History.{after, IsLegal};
 ghost use Rattle.machine.specs.Run.{run};
@@ -13,6 +14,7 @@ ghost use Rattle.script_types.specs.Source.{IsWellFormed};
 ghost use Rattle.script_types.specs.declared.script.Script.{Script};
 
 use crate::output::Line;
+use crate::whole::{history, next_row};
 use edge_io::{Failed, Sink, write_whole};
 use entry_log::{Effect, Entry};
 use itoa::Buffer;
@@ -82,12 +84,13 @@ fn messages_of(history: &[Entry]) -> Messages
 
 /// The number of objects that are left.
 fn objects_left(kernel: &Kernel<PlainWords>) -> usize
-    requires { IsWellFormed kernel.now.script }
+    requires valid { IsWellFormed kernel.now.script }
+    requires alone { Suits false kernel.now.mode }
     ensures { result ≡ length (final_rows (after kernel.now.script kernel.now.history)) }
 {
     let mut objects = 0;
     let mut from = 0;
-    while let Some(row) = kernel.next_row(from) {
+    while let Some(row) = next_row(kernel, from) {
         objects += 1;
         from = row.object.0 + 1;
     }
@@ -97,13 +100,14 @@ fn objects_left(kernel: &Kernel<PlainWords>) -> usize
 /// Sums up the run of a script of so many slots.
 pub fn summary_of(slots: usize, kernel: &Kernel<PlainWords>) -> Summary
     requires valid { IsWellFormed kernel.now.script }
+    requires alone { Suits false kernel.now.mode }
     requires slots { slots ≡ length kernel.now.script.slots }
     requires run { kernel.now.history ≡ run kernel.now.script }
     ensures value { result ≡ summary_of kernel.now.script }
     ensures legal { IsLegal kernel.now.script (run kernel.now.script) }
     ensures safe { IsSafe kernel.now.script (run kernel.now.script) }
 {
-    let history = kernel.history();
+    let history = history(kernel);
     let messages = messages_of(history);
     Summary {
         slots,

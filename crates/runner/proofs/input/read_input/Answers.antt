@@ -5,10 +5,10 @@ use Rattle.runner.proofs.Taken.{more_few, more_many}
 use Rattle.runner.proofs.input.read_input.Goals as goal
 
 -- one byte too many was read
-pub returns-then-count-len-clause-large : goal.returns-then-count-len-clause-large
-returns-then-count-len-clause-large g c = λ same. record {
+pub returns-then-count-limit-clause-large : goal.returns-then-count-limit-clause-large
+returns-then-count-limit-clause-large g c = λ same. record {
   bytes = c.loop-count.input.items ++ take c.in-Ok.count c.read.new.buf;
-  many = more_many c.loop-count.input.items c.in-Ok.count c.read.new.buf (omega (arith, c.in-Ok.ensures.count, length-take {A = ℕ})) (omega (arith, c.in-Ok.ensures.count, length-take {A = ℕ}));
+  many = more_many c.args.limit c.loop-count.input.items c.in-Ok.count c.read.new.buf (omega (arith, c.in-Ok.ensures.count, length-take {A = ℕ})) (omega (arith, c.in-Ok.ensures.count, length-take {A = ℕ}));
   front = read_more _ _ _ c.loop-count.input.items _ c.loop-count.invariant.bytes c.in-Ok.ensures.moved;
 }
 
@@ -16,6 +16,6 @@ returns-then-count-len-clause-large g c = λ same. record {
 pub returns-then-is_err-clause-few : goal.returns-then-is_err-clause-few
 returns-then-is_err-clause-few g c = λ other. record {
   bytes = c.loop-count.input.items ++ take c.in-Ok.count c.read.new.buf;
-  few = more_few c.loop-count.input.items c.in-Ok.count c.read.new.buf (omega (arith, c.in-Ok.ensures.count, length-take {A = ℕ}));
+  few = more_few c.args.limit c.loop-count.input.items c.in-Ok.count c.read.new.buf (omega (arith, c.in-Ok.ensures.count, length-take {A = ℕ}));
   front = read_more _ _ _ c.loop-count.input.items _ c.loop-count.invariant.bytes c.in-Ok.ensures.moved;
 }

@@ -1,11 +1,11 @@
-use Rattle.std.proofs.Common.{rules, ◌<◌, ◌+◌, ◌∙◌, arith}
+use Rattle.std.proofs.Common.{false, rules, ◌<◌, ◌+◌, ◌∙◌, arith}
 use Rattle.std.proofs.lemmas.Result.{err_from_is_err_and}
 use Rattle.std.specs.List.{flat_map}
 use Rattle.edge_io.proofs.Writing.{all_but_next, all_but_prefix}
 use Rattle.entry_log.specs.FinalLine.{final_line}
 use Rattle.machine.specs.FinalRows.{rows_from}
 use Rattle.machine.specs.History.{after}
-use Rattle.runner.proofs.Rows.{row_number}
+use Rattle.history_check.proofs.LeftRows.{row_number}
 use Rattle.runner.proofs.Texts.{next_line}
 use Rattle.runner.proofs.output.write_rows.Goals as goal
 
@@ -18,7 +18,7 @@ returns-in_err-write_whole-clause-front g c =
 
 pub overflow_add-from : goal.overflow_add-from
 overflow_add-from g c =
-    let small : c.in-Some.row.object.0 < 4096 = row_number c.args.kernel.now.script c.args.kernel.now.history c.loop-row.from c.in-Some.row _ c.requires.valid c.in-Some.ensures in
+    let small : c.in-Some.row.object.0 < 4096 = row_number false c.args.kernel.now.script c.args.kernel.now.history c.loop-row.from c.in-Some.row _ c.requires.valid c.in-Some.ensures in
     omega arith
 
 pub loop-row-preserved : goal.loop-row-preserved

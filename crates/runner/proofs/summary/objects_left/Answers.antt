@@ -1,16 +1,16 @@
-use Rattle.std.proofs.Common.{◌<◌, ap, arith, length}
-use Rattle.runner.proofs.Rows.{row_number, few_rows}
+use Rattle.std.proofs.Common.{false, ◌<◌, ap, arith, length}
+use Rattle.history_check.proofs.LeftRows.{row_number, few_rows}
 use Rattle.runner.proofs.summary.objects_left.Goals as goal
 
 pub overflow_add-objects : goal.overflow_add-objects
 overflow_add-objects c =
     let script = c.args.kernel.now.script in
     let history = c.args.kernel.now.history in
-    omega (arith, ap length c.in-Some.ensures, few_rows script history c.requires)
+    omega (arith, ap length c.in-Some.ensures, few_rows false script history c.requires.valid)
 
 pub overflow_add-from : goal.overflow_add-from
 overflow_add-from c =
-    let small : c.in-Some.row.object.0 < 4096 = row_number c.args.kernel.now.script c.args.kernel.now.history c.loop-row.from c.in-Some.row _ c.requires c.in-Some.ensures in
+    let small : c.in-Some.row.object.0 < 4096 = row_number false c.args.kernel.now.script c.args.kernel.now.history c.loop-row.from c.in-Some.row _ c.requires.valid c.in-Some.ensures in
     omega arith
 
 pub loop-row-preserved : goal.loop-row-preserved
