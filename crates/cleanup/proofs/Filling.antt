@@ -37,7 +37,8 @@ none_given threads = record {
 }
 
 -- and one more
-pub more_given : (threads node : ℕ) (links : Linked) → node < threads * 16 → AreGiven threads node links → AreGiven threads (node + 1) (pushed_back links (threads + node / 16) node)
+pub more_given : (threads node : ℕ) (links : Linked) → node < threads * 16 → AreGiven threads node links
+    → AreGiven threads (node + 1) (pushed_back links (threads + node / 16) node)
 more_given threads node links low are =
     let list = threads + node / 16 in
     let listed : list < length links.lists = omega (arith, are.lists) in
@@ -48,7 +49,8 @@ more_given threads node links low are =
       left = λ t inside. elim (cases_eq t (node / 16)) [
         | inl here ↦
             let was = are.left t inside in
-            rw (here, get_or-set_same links.lists list (list_at links list ++ node ∷ []) [] listed) (length_push (list_at links list) node ∙ omega (arith, rw here at was))
+            rw (here, get_or-set_same links.lists list (list_at links list ++ node ∷ []) [] listed)
+            (length_push (list_at links list) node ∙ omega (arith, rw here at was))
         | inr there ↦
             let other : threads + t ≢ list = λ e. there (omega arith) in
             rw get_or-set_other (are.left t inside ∙ omega arith)
@@ -57,7 +59,8 @@ more_given threads node links low are =
     }
 
 -- when all are given out each thread has its places
-pub all_given : (threads : ℕ) (links : Linked) (rows : List Owed) → threads < 2 ^ 16 → length rows ≡ threads * 16 → AreGiven threads (threads * 16) links → HavePlaces threads links rows
+pub all_given : (threads : ℕ) (links : Linked) (rows : List Owed) → threads < 2 ^ 16 → length rows ≡ threads * 16
+    → AreGiven threads (threads * 16) links → HavePlaces threads links rows
 all_given threads links rows small sized are = record {
   small = small;
   nodes = are.nodes ∙ sym sized;
@@ -66,12 +69,14 @@ all_given threads links rows small sized are = record {
 }
 
 -- and nobody owes anything
-nothing : {X : Type 0} (f : ℕ → X) (n : ℕ) (lists : List (List ℕ)) → n ≤ length lists → ((t : ℕ) → t < n → get_or lists t [] ≡ []) → map (map f) (take n lists) ≡ replicate n []
+nothing : {X : Type 0} (f : ℕ → X) (n : ℕ) (lists : List (List ℕ)) → n ≤ length lists
+    → ((t : ℕ) → t < n → get_or lists t [] ≡ []) → map (map f) (take n lists) ≡ replicate n []
 nothing f zero lists enough none = refl
 nothing f (suc n) [] enough none = absurd (omega arith)
 nothing f (suc n) (list ∷ lists) enough none =
     let first : list ≡ [] = none 0 (omega arith) in
     rw first (ap (λ rest. [] ∷ rest) (nothing f n lists (omega arith) (λ t low. none (suc t) (omega arith))))
 
-pub nothing_owed : (threads : ℕ) (links : Linked) (rows : List Owed) → AreGiven threads (threads * 16) links → duties_of threads links rows ≡ replicate threads []
+pub nothing_owed : (threads : ℕ) (links : Linked) (rows : List Owed) → AreGiven threads (threads * 16) links
+    → duties_of threads links rows ≡ replicate threads []
 nothing_owed threads links rows are = nothing (λ node. get_or rows node _) threads links.lists (omega (arith, are.lists)) are.none

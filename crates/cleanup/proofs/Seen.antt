@@ -22,7 +22,8 @@ module _ {X : Type 0} where
       let rest = map_same f g xs (λ k y at. same (suc k) y at) in
       cc
 
-  pub maps_same : (f g : ℕ → X) (lists : List (List ℕ)) → ((l k x : ℕ) → slice_get (get_or lists l []) k ≡ Some x → f x ≡ g x) → map (map f) lists ≡ map (map g) lists
+  pub maps_same : (f g : ℕ → X) (lists : List (List ℕ))
+      → ((l k x : ℕ) → slice_get (get_or lists l []) k ≡ Some x → f x ≡ g x) → map (map f) lists ≡ map (map g) lists
   maps_same f g [] same = refl
   maps_same f g (list ∷ lists) same =
       let first = map_same f g list (λ k x at. same 0 k x at) in

@@ -19,7 +19,15 @@ pub record Lists : Type 0 where
 -- no thread owes or has anything
 abbrev pub empty_lists : ℕ → ℕ → Lists
 empty_lists threads objects =
-    record { threads = threads; objects = objects; duties = replicate threads []; mutexes = replicate threads []; servers = replicate threads []; temporary = replicate threads None; logons = replicate threads [] }
+    record {
+      threads = threads;
+      objects = objects;
+      duties = replicate threads [];
+      mutexes = replicate threads [];
+      servers = replicate threads [];
+      temporary = replicate threads None;
+      logons = replicate threads [];
+    }
 
 -- a thread's list
 abbrev pub list_of : {A : Type 0} → List (List A) → ObjNo → List A
@@ -89,7 +97,8 @@ listed (Some o) = Temp o ∷ []
 -- what a thread has, in the order in which its death gives it up
 abbrev pub held_of : Lists → ObjNo → List Held
 held_of s t =
-    map (λ o. Mutex o) (list_of s.mutexes t) ++ map (λ o. Server o) (list_of s.servers t) ++ listed (temporary_of s t) ++ map (λ (logon : ObjNo × ℕ). Logon logon.0 logon.1) (list_of s.logons t)
+    map (λ o. Mutex o) (list_of s.mutexes t) ++ map (λ o. Server o) (list_of s.servers t) ++ listed
+    (temporary_of s t) ++ map (λ (logon : ObjNo × ℕ). Logon logon.0 logon.1) (list_of s.logons t)
 
 -- a thread owes one thing more, behind the others
 abbrev pub owed : Lists → ObjNo → Owed → Lists

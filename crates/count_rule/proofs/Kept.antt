@@ -14,7 +14,16 @@ use Rattle.count_rule.specs.Shows.{IsKept}
 
 -- it doesn't speak of the identity
 pub kept_under : (w : Words) (identity : List ℕ) → IsKept w → IsKept (record w { identity = identity })
-kept_under w identity s = record { sizes = s.sizes; in_use = s.in_use; few = s.few; out_created = s.out_created; numbered = s.numbered; once = s.once; unmade = s.unmade; small = s.small }
+kept_under w identity s = record {
+  sizes = s.sizes;
+  in_use = s.in_use;
+  few = s.few;
+  out_created = s.out_created;
+  numbered = s.numbered;
+  once = s.once;
+  unmade = s.unmade;
+  small = s.small;
+}
 
 pub fresh_none : (n p : ℕ) → ◌≡◌ {A = ℕ} (get_or (replicate n 0) p 0) 0
 fresh_none n p = elim (cases_lt p n) [
@@ -80,7 +89,10 @@ kept_sent w p s made low few = record {
   ];
   numbered = λ n above. let old = s.numbered n (omega arith) in
       elim (cases_Bool (same_slip (record { place = p; number = w.made + 1 }) n)) [
-        | inl same ↦ let is : w.made + 1 ≡ n.number = ap (λ x. x.number) (same_slip-true (record { place = p; number = w.made + 1 }) n same) in absurd (omega arith)
+        | inl same ↦
+            let is : w.made + 1 ≡ n.number = ap (λ x. x.number)
+            (same_slip-true (record { place = p; number = w.made + 1 }) n same) in
+            absurd (omega arith)
         | inr other ↦ rw (copies_append, other) (omega arith)
       ];
   once = λ n. let old = s.once n in

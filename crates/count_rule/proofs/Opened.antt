@@ -28,7 +28,8 @@ if_some (Some x) P Q turns h = turns x h
 if_some None P Q turns h = tt
 
 -- the note of a ticket is out
-pub ticket_out : (k : Counted) (words : List ℕ) (views : List View) (id : ℕ) (slip : Slip) (found : Option Found) → Shows k words views → get_elem? views id ≡ some (Ticket slip found) → IsOut (words_of [] k) slip
+pub ticket_out : (k : Counted) (words : List ℕ) (views : List View) (id : ℕ) (slip : Slip) (found : Option Found)
+    → Shows k words views → get_elem? views id ≡ some (Ticket slip found) → IsOut (words_of [] k) slip
 ticket_out k words views id slip found r at =
     let there = tickets_at (λ s f. same_slip s slip) views id (Ticket slip found) at in
     let one : ticket_bit (λ s f. same_slip s slip) (Ticket slip found) ≡ 1 = rw (same_slip-itself slip slip refl) refl in
@@ -49,16 +50,23 @@ module _ (k : Counted) (words : List ℕ) (views : List View) (id p n : ℕ) (sl
         let within : q < length words = omega (arith, length-set words p n) in
         dite (ℕ_discrete q p)
         (λ e. let back : p ≡ q = sym e in let lt : p < length words = omega arith in
-        let now : IsShownAt k (set words p n) after p = subst (λ (x : ℕ). IsShown (stage_of k p) x (own_of k p) (holding p after) (late_of k p + too_late p after)) (sym (get_or-set_same words p n 0 lt)) (shown lt) in
+        let now : IsShownAt k (set words p n) after p = subst
+        (λ (x : ℕ). IsShown (stage_of k p) x (own_of k p) (holding p after) (late_of k p + too_late p after))
+        (sym (get_or-set_same words p n 0 lt)) (shown lt) in
         subst (λ (z : ℕ). IsShownAt k (set words p n) after z) back now)
         (λ ne.
         let there : slip.place ≢ q = λ e. ne (sym e ∙ here) in
         let holds = tickets_set (λ s f. eqb s.place q && holds_open f) views id (Ticket slip None) (Ticket slip (Some found)) at in
         let late = tickets_set (λ s f. eqb s.place q && found_dead f) views id (Ticket slip None) (Ticket slip (Some found)) at in
-        let as_many : holding q views ≡ holding q after = omega (arith, holds, bit_else holds_open q slip None there, bit_else holds_open q slip (Some found) there) in
-        let as_late : too_late q views ≡ too_late q after = omega (arith, late, bit_else found_dead q slip None there, bit_else found_dead q slip (Some found) there) in
-        subst (λ (x : ℕ × ℕ × ℕ). IsShown (stage_of k q) x.0 (own_of k q) x.1 (late_of k q + x.2)) (λ i. (sym (get_or-set_other words p q n 0 ne) i, as_many i, as_late i)) (r.shown q within));
-    are_notes = λ test. let same = tickets_set (λ s f. test s) views id (Ticket slip None) (Ticket slip (Some found)) at in let notes = r.are_notes test in omega arith;
+        let as_many : holding q views ≡ holding q after = omega
+        (arith, holds, bit_else holds_open q slip None there, bit_else holds_open q slip (Some found) there) in
+        let as_late : too_late q views ≡ too_late q after = omega
+        (arith, late, bit_else found_dead q slip None there, bit_else found_dead q slip (Some found) there) in
+        subst (λ (x : ℕ × ℕ × ℕ). IsShown (stage_of k q) x.0 (own_of k q) x.1 (late_of k q + x.2))
+        (λ i. (sym (get_or-set_other words p q n 0 ne) i, as_many i, as_late i)) (r.shown q within));
+    are_notes =
+        λ test. let same = tickets_set (λ s f. test s) views id (Ticket slip None) (Ticket slip (Some found)) at in
+        let notes = r.are_notes test in omega arith;
     kept = r.kept;
     few_late = r.few_late;
     few_made = r.few_made;
@@ -73,31 +81,40 @@ module _ (k : Counted) (words : List ℕ) (views : List View) (id p n : ℕ) (sl
     joined = r.joined;
   }
 
-raised_held : (k : Counted) (words : List ℕ) (views : List View) (id p n : ℕ) (slip : Slip) → Shows k words views → get_elem? views id ≡ some (Ticket slip None) → slip.place ≡ p → n ≡ get_or words p 0 + 1 → stage_of k p ≡ InUse
+raised_held : (k : Counted) (words : List ℕ) (views : List View) (id p n : ℕ) (slip : Slip) → Shows k words views
+    → get_elem? views id ≡ some (Ticket slip None) → slip.place ≡ p → n ≡ get_or words p 0 + 1 → stage_of k p ≡ InUse
     → Shows k (set words p n) (set views id (Ticket slip (Some Held)))
 raised_held k words views id p n slip r at here is used = raised k words views id p n slip Held r at here is
     (λ inside.
     let was = shown_as k words views p InUse r inside used in
     let holds = tickets_set (λ s f. eqb s.place p && holds_open f) views id (Ticket slip None) (Ticket slip (Some Held)) at in
     let late = tickets_set (λ s f. eqb s.place p && found_dead f) views id (Ticket slip None) (Ticket slip (Some Held)) at in
-    let more : holding p (set views id (Ticket slip (Some Held))) ≡ holding p views + 1 = omega (arith, holds, bit_here holds_open p slip None here, bit_here holds_open p slip (Some Held) here) in
-    let as_late : too_late p (set views id (Ticket slip (Some Held))) ≡ too_late p views = omega (arith, late, bit_here found_dead p slip None here, bit_here found_dead p slip (Some Held) here) in
+    let more : holding p (set views id (Ticket slip (Some Held))) ≡ holding p views + 1 =
+    omega (arith, holds, bit_here holds_open p slip None here, bit_here holds_open p slip (Some Held) here) in
+    let as_late : too_late p (set views id (Ticket slip (Some Held))) ≡ too_late p views =
+    omega (arith, late, bit_here found_dead p slip None here, bit_here found_dead p slip (Some Held) here) in
     rw used (omega (arith, was.0), omega (arith, was.0), omega (arith, was.2)))
 
-raised_dead : (k : Counted) (words : List ℕ) (views : List View) (id p n : ℕ) (slip : Slip) → Shows k words views → get_elem? views id ≡ some (Ticket slip None) → slip.place ≡ p → n ≡ get_or words p 0 + 1 → stage_of k p ≡ Gone
+raised_dead : (k : Counted) (words : List ℕ) (views : List View) (id p n : ℕ) (slip : Slip) → Shows k words views
+    → get_elem? views id ≡ some (Ticket slip None) → slip.place ≡ p → n ≡ get_or words p 0 + 1 → stage_of k p ≡ Gone
     → Shows k (set words p n) (set views id (Ticket slip (Some Dead)))
 raised_dead k words views id p n slip r at here is gone = raised k words views id p n slip Dead r at here is
     (λ inside.
     let was = shown_as k words views p Gone r inside gone in
     let holds = tickets_set (λ s f. eqb s.place p && holds_open f) views id (Ticket slip None) (Ticket slip (Some Dead)) at in
     let late = tickets_set (λ s f. eqb s.place p && found_dead f) views id (Ticket slip None) (Ticket slip (Some Dead)) at in
-    let as_many : holding p (set views id (Ticket slip (Some Dead))) ≡ holding p views = omega (arith, holds, bit_here holds_open p slip None here, bit_here holds_open p slip (Some Dead) here) in
-    let more : too_late p (set views id (Ticket slip (Some Dead))) ≡ too_late p views + 1 = omega (arith, late, bit_here found_dead p slip None here, bit_here found_dead p slip (Some Dead) here) in
+    let as_many : holding p (set views id (Ticket slip (Some Dead))) ≡ holding p views =
+    omega (arith, holds, bit_here holds_open p slip None here, bit_here holds_open p slip (Some Dead) here) in
+    let more : too_late p (set views id (Ticket slip (Some Dead))) ≡ too_late p views + 1 =
+    omega (arith, late, bit_here found_dead p slip None here, bit_here found_dead p slip (Some Dead) here) in
     rw gone (omega (arith, was.0), was.1, omega (arith, was.2)))
 
 -- the ticket finds what its place's stage tells, and the word doesn't go round
-raised_by_stage : (k : Counted) (words : List ℕ) (views : List View) (id p : ℕ) (slip : Slip) (stage : Stage) → Shows k words views → get_elem? views id ≡ some (Ticket slip None) → slip.place ≡ p
-    → p < length words → stage_of k p ≡ stage → stage ≢ Fresh → Shows k (set words p ((get_or words p 0 + 1) % 2 ^ 64)) (set views id (Ticket slip (Some (found_at (get_or words p 0)))))
+raised_by_stage : (k : Counted) (words : List ℕ) (views : List View) (id p : ℕ) (slip : Slip) (stage : Stage)
+    → Shows k words views → get_elem? views id ≡ some (Ticket slip None) → slip.place ≡ p
+    → p < length words → stage_of k p ≡ stage → stage ≢ Fresh
+    → Shows k (set words p ((get_or words p 0 + 1) % 2 ^ 64))
+    (set views id (Ticket slip (Some (found_at (get_or words p 0)))))
 raised_by_stage k words views id p slip Fresh r at here inside is made = absurd (made refl)
 raised_by_stage k words views id p slip InUse r at here inside is made =
     let n : ℕ = get_or words p 0 in let few = in_use_small k words views p r inside is in
@@ -112,7 +129,9 @@ raised_by_stage k words views id p slip Gone r at here inside is made =
     rw dead (raised_dead k words views id p ((n + 1) % 2 ^ 64) slip r at here (mod-eq_of_lt fits) is)
 
 -- the old word tells whether its place is gone
-word_tells : (k : Counted) (words : List ℕ) (views : List View) (p : ℕ) (stage : Stage) → Shows k words views → p < length words → stage_of k p ≡ stage → stage ≢ Fresh → (found_at (get_or words p 0) ≡ Dead) ↔ (stage_of k p ≡ Gone)
+word_tells : (k : Counted) (words : List ℕ) (views : List View) (p : ℕ) (stage : Stage) → Shows k words views
+    → p < length words → stage_of k p ≡ stage → stage ≢ Fresh
+    → (found_at (get_or words p 0) ≡ Dead) ↔ (stage_of k p ≡ Gone)
 word_tells k words views p Fresh r inside is made = absurd (made refl)
 word_tells k words views p InUse r inside is made =
     let few = in_use_small k words views p r inside is in
@@ -127,10 +146,12 @@ module _ {S : Type 0} where
   -- a ticket's seat isn't the first
   pub not_first : (s : State S View) (r : Holds s) (id : ℕ) (slip : Slip) (found : Option Found) → get_elem? s.views id ≡ some (Ticket slip found) → 0 ≢ id
   not_first s r id slip found at first =
-      let clash : Kernel r.kernel ≡ Ticket slip found = some-injective (Kernel r.kernel) (Ticket slip found) (sym r.seated ∙ (ap (λ (j : ℕ). get_elem? s.views j) first ∙ at)) in
+      let clash : Kernel r.kernel ≡ Ticket slip found = some-injective (Kernel r.kernel) (Ticket slip found)
+      (sym r.seated ∙ (ap (λ (j : ℕ). get_elem? s.views j) first ∙ at)) in
       absurd (cc)
 
-  pub opens_allowed : (slots id : ℕ) (me : Me S View) (p : ℕ) → me ≡ (Ticket (slip_of me.0) None, []) → (slip_of me.0).place ≡ p → Allows Holds slots id me p (λ n. (n + 1) % 2 ^ 64) (opens (step slots p 1 0 none) me)
+  pub opens_allowed : (slots id : ℕ) (me : Me S View) (p : ℕ) → me ≡ (Ticket (slip_of me.0) None, [])
+      → (slip_of me.0).place ≡ p → Allows Holds slots id me p (λ n. (n + 1) % 2 ^ 64) (opens (step slots p 1 0 none) me)
   opens_allowed slots id me p is here s r deep at fits =
       let slip : Slip = slip_of me.0 in let n : ℕ = get_or s.words p 0 in let k : Counted = r.kernel in
       let mine : get_elem? s.views id ≡ some (Ticket slip None) = at ∙ ap (λ (m : Me S View). some m.0) is in

@@ -90,4 +90,6 @@ fresh_shows n = record {
 
 module _ {S : Type 0} where
   pub starts : (n : ℕ) (words : List ℕ) → words ≡ replicate n 0 → Holds (opening {S = S} words [] (Kernel (fresh_counted n)))
-  starts n words is = subst (λ (ws : List ℕ). Holds (opening {S = S} ws [] (Kernel (fresh_counted n)))) (sym is) record { kernel = fresh_counted n; seated = refl; shows = fresh_shows n }
+  starts n words is =
+      subst (λ (ws : List ℕ). Holds (opening {S = S} ws [] (Kernel (fresh_counted n)))) (sym is) record
+      { kernel = fresh_counted n; seated = refl; shows = fresh_shows n }

@@ -28,7 +28,8 @@ tickets_snoc test [] w = omega arith
 tickets_snoc test (x ∷ xs) w = let rest = tickets_snoc test xs w in omega arith
 
 -- a ticket that passes is counted
-pub tickets_at : (test : Slip → Option Found → Bool) (views : List View) (id : ℕ) (v : View) → get_elem? views id ≡ some v → ticket_bit test v ≤ tickets test views
+pub tickets_at : (test : Slip → Option Found → Bool) (views : List View) (id : ℕ) (v : View)
+    → get_elem? views id ≡ some v → ticket_bit test v ≤ tickets test views
 tickets_at test [] id v at = absurd (some-ne-none v (sym at))
 tickets_at test (x ∷ xs) zero v at = let same : ticket_bit test x ≡ ticket_bit test v = ap (ticket_bit test) (some-injective x v at) in omega arith
 tickets_at test (x ∷ xs) (suc id) v at = let rest = tickets_at test xs id v at in omega arith
@@ -43,13 +44,16 @@ bit_within t u within (Ticket s f) =
 bit_within t u within Spent = omega arith
 
 -- who passes the one test passes the other
-pub tickets_within : (t u : Slip → Option Found → Bool) → ((s : Slip) (f : Option Found) → t s f ≡ true → u s f ≡ true) → (views : List View) → tickets t views ≤ tickets u views
+pub tickets_within : (t u : Slip → Option Found → Bool) → ((s : Slip) (f : Option Found) → t s f ≡ true → u s f ≡ true)
+    → (views : List View) → tickets t views ≤ tickets u views
 tickets_within t u within [] = omega arith
 tickets_within t u within (v ∷ vs) = let one = bit_within t u within v in let rest = tickets_within t u within vs in omega arith
 
 -- a ticket of the place is counted by what it found, and one of another place isn't
-pub bit_here : (flag : Option Found → Bool) (p : ℕ) (s : Slip) (f : Option Found) → s.place ≡ p → ticket_bit (λ slip found. eqb slip.place p && flag found) (Ticket s f) ≡ (if flag f then 1 else 0)
+pub bit_here : (flag : Option Found → Bool) (p : ℕ) (s : Slip) (f : Option Found) → s.place ≡ p
+    → ticket_bit (λ slip found. eqb slip.place p && flag found) (Ticket s f) ≡ (if flag f then 1 else 0)
 bit_here flag p s f here = rw (eq-eqb s.place p here) refl
 
-pub bit_else : (flag : Option Found → Bool) (p : ℕ) (s : Slip) (f : Option Found) → s.place ≢ p → ticket_bit (λ slip found. eqb slip.place p && flag found) (Ticket s f) ≡ 0
+pub bit_else : (flag : Option Found → Bool) (p : ℕ) (s : Slip) (f : Option Found) → s.place ≢ p
+    → ticket_bit (λ slip found. eqb slip.place p && flag found) (Ticket s f) ≡ 0
 bit_else flag p s f there = rw (ne_eqb s.place p there) refl

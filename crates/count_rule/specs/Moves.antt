@@ -50,7 +50,12 @@ late_found Dead k p = slice_set k.late p (late_of k p + 1)
 -- a join: the note is out no longer, what it held is counted, and it is noted
 abbrev pub joining : Slip → Found → Counted → Counted
 joining slip found k =
-    record k { own = own_found found (words_of [] k) slip.place; out = without slip k.out; late = late_found found k slip.place; joined = Some record { slip = slip; found = found; before = k.out } }
+    record k {
+      own = own_found found (words_of [] k) slip.place;
+      out = without slip k.out;
+      late = late_found found k slip.place;
+      joined = Some record { slip = slip; found = found; before = k.out };
+    }
 
 -- a look after a join: the note was out
 abbrev pub looking : Counted → Counted

@@ -8,13 +8,15 @@ use Rattle.script_types.specs.Forms.{instr_form}
 use Rattle.script_types.specs.Ranges.{is_source_line}
 use Rattle.script_types.proofs.LimitLaws.{in_form, number_in}
 
-pub send_small : (what : Instr) (x function s : ℕ) (args : Args) → what ≡ instr.Send x function s args → is_source_line (line.Instr what) ≡ true → function < 2147483648
+pub send_small : (what : Instr) (x function s : ℕ) (args : Args) → what ≡ instr.Send x function s args
+    → is_source_line (line.Instr what) ≡ true → function < 2147483648
 send_small what x function s args is ranges =
     let h = subst (λ (w : Instr). is_source_line (line.Instr w) ≡ true) is ranges in
     let v = in_form (instr_form (instr.Send x function s args)) h in
     let few = (number_in 0 2147483647 function v.0.1.0).1 in omega arith
 
-pub call_small : (what : Instr) (x function : ℕ) (args : Args) → what ≡ instr.Call x function args → is_source_line (line.Instr what) ≡ true → function < 2147483648
+pub call_small : (what : Instr) (x function : ℕ) (args : Args) → what ≡ instr.Call x function args
+    → is_source_line (line.Instr what) ≡ true → function < 2147483648
 call_small what x function args is ranges =
     let h = subst (λ (w : Instr). is_source_line (line.Instr w) ≡ true) is ranges in
     let v = in_form (instr_form (instr.Call x function args)) h in

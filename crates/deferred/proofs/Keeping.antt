@@ -34,7 +34,9 @@ enqueued_same links l node held =
 
 module _ (idfcs : ℕ) (places : List DfcPlace) (priorities : List ℕ) (links : Linked) (kept : AreKept idfcs places priorities links) where
   -- only deferred calls come to the lists behind the first
-  pub with_list_kept : (l : ℕ) (list : List ℕ) → l < length links.lists → ((q : ℕ) → l ≡ suc q → All (λ node. node < length places) list) → AreKept idfcs places priorities (with_list links l list)
+  pub with_list_kept : (l : ℕ) (list : List ℕ) → l < length links.lists
+      → ((q : ℕ) → l ≡ suc q → All (λ node. node < length places) list)
+      → AreKept idfcs places priorities (with_list links l list)
   with_list_kept l list inside own = record {
     few = kept.few;
     small = kept.small;
@@ -48,7 +50,8 @@ module _ (idfcs : ℕ) (places : List DfcPlace) (priorities : List ℕ) (links :
     ];
   }
 
-  pub enqueued_kept : (l node : ℕ) → l < length links.lists → ((q : ℕ) → l ≡ suc q → node < length places) → AreKept idfcs places priorities (enqueued links l node)
+  pub enqueued_kept : (l node : ℕ) → l < length links.lists → ((q : ℕ) → l ≡ suc q → node < length places)
+      → AreKept idfcs places priorities (enqueued links l node)
   enqueued_kept l node inside own =
       elim (cases_Bool (list_any (holds node) links.lists)) [
         | inl stood ↦ rw stood kept
@@ -69,7 +72,8 @@ module _ (idfcs : ℕ) (places : List DfcPlace) (priorities : List ℕ) (links :
             let at = place_of (drop 1 links.lists) node held in
             let own = kept.own at.0 in
             let stands = rw (read_behind links.lists at.0) at at.3 in
-            let low = All-get_or (λ x. x < length places) (list_at links (suc at.0)) at.1 node (slice_get_within (list_at links (suc at.0)) at.1 node stands) own in
+            let low = All-get_or (λ x. x < length places) (list_at links (suc at.0)) at.1 node
+            (slice_get_within (list_at links (suc at.0)) at.1 node stands) own in
             let is = get_or_from_slice_get (list_at links (suc at.0)) at.1 node node stands in
             absurd (omega (arith, rw is at low))
         | inr absent ↦ absent
@@ -83,7 +87,8 @@ module _ (idfcs : ℕ) (places : List DfcPlace) (priorities : List ℕ) (links :
   pub idfc_queued : (item node : ℕ) → node ≡ length places + item → is_queued (calls_of idfcs places links) (Idfc item) ≡ list_any (holds node) links.lists
   idfc_queued item node is =
       let high : length places ≤ node = omega arith in
-      rw (any_behind links.lists node, behind_absent node high, any_idfc (length places) item node is (list_at links 0)) (sym (or-false (holds node (list_at links 0))))
+      rw (any_behind links.lists node, behind_absent node high, any_idfc (length places) item node is (list_at links 0))
+      (sym (or-false (holds node (list_at links 0))))
 
   pub node_queued : (node : ℕ) → is_queued (calls_of idfcs places links) (item_of (length places) node) ≡ list_any (holds node) links.lists
   node_queued node =
@@ -95,28 +100,58 @@ module _ (idfcs : ℕ) (places : List DfcPlace) (priorities : List ℕ) (links :
       ]
 
   -- what an enqueued item leaves
-  pub immediate_added : (node : ℕ) (item : Item) → item_of (length places) node ≡ item → calls_of idfcs places (enqueued links 0 node) ≡ record (calls_of idfcs places links) { immediate = if is_queued (calls_of idfcs places links) item then (calls_of idfcs places links).immediate else (calls_of idfcs places links).immediate ++ item ∷ [] }
+  pub immediate_added : (node : ℕ) (item : Item) → item_of (length places) node ≡ item
+      → calls_of idfcs places (enqueued links 0 node)
+      ≡ record (calls_of idfcs places links) {
+        immediate = if is_queued (calls_of idfcs places links) item then
+            (calls_of idfcs places links).immediate else (calls_of idfcs places links).immediate ++ item ∷ [];
+      }
   immediate_added node item is =
       let queued : is_queued (calls_of idfcs places links) item ≡ list_any (holds node) links.lists = rw is at (node_queued node) in
       elim (cases_Bool (list_any (holds node) links.lists)) [
         | inl stood ↦ rw (queued, stood) refl
         | inr absent ↦
             let some = kept.some in
-            rw (queued, absent, get_or-set_same links.lists 0 (list_at links 0 ++ node ∷ []) [] some, drop_first links.lists (list_at links 0 ++ node ∷ []), map-append, is) refl
+            rw (
+              queued,
+              absent,
+              get_or-set_same links.lists 0 (list_at links 0 ++ node ∷ []) [] some,
+              drop_first links.lists (list_at links 0 ++ node ∷ []),
+              map-append,
+              is,
+            ) refl
       ]
 
-  pub own_added : (q dfc : ℕ) → dfc < length places → calls_of idfcs places (enqueued links (suc q) dfc) ≡ record (calls_of idfcs places links) { queues = if is_queued (calls_of idfcs places links) (Move dfc) then (calls_of idfcs places links).queues else set (calls_of idfcs places links).queues q (get_or (calls_of idfcs places links).queues q [] ++ dfc ∷ []) }
+  pub own_added : (q dfc : ℕ) → dfc < length places
+      → calls_of idfcs places (enqueued links (suc q) dfc)
+      ≡ record (calls_of idfcs places links) {
+        queues = if is_queued (calls_of idfcs places links) (Move dfc) then
+            (calls_of idfcs places links).queues else set (calls_of idfcs places links).queues q
+            (get_or (calls_of idfcs places links).queues q [] ++ dfc ∷ []);
+      }
   own_added q dfc low =
       let queued = move_queued dfc low in
       elim (cases_Bool (list_any (holds dfc) links.lists)) [
         | inl stood ↦ rw (queued, stood) refl
-        | inr absent ↦ rw (queued, absent, drop_set links.lists q (list_at links (suc q) ++ dfc ∷ []), first_stays links.lists q (list_at links (suc q) ++ dfc ∷ []), read_behind links.lists q) refl
+        | inr absent ↦
+            rw (
+              queued,
+              absent,
+              drop_set links.lists q (list_at links (suc q) ++ dfc ∷ []),
+              first_stays links.lists q (list_at links (suc q) ++ dfc ∷ []),
+              read_behind links.lists q,
+            ) refl
       ]
 
   -- the node of the greatest weight is the call that runs next
-  pub next_is : (q : ℕ) → first_of_greatest (λ node. get_or priorities node 0) (list_at links (suc q)) ≡ first_of_greatest (priority_of (calls_of idfcs places links)) (queue_at (calls_of idfcs places links) q)
+  pub next_is : (q : ℕ)
+      → first_of_greatest (λ node. get_or priorities node 0) (list_at links (suc q))
+      ≡ first_of_greatest (priority_of (calls_of idfcs places links)) (queue_at (calls_of idfcs places links) q)
   next_is q =
-      rw (kept.weights, read_behind links.lists q) (greatest_same (λ node. get_or (map (λ place. place.priority) places ++ replicate idfcs 0) node 0) (priority_of (calls_of idfcs places links)) (λ node. padded (map (λ place. place.priority) places) idfcs node) (list_at links (suc q)))
+      rw (kept.weights, read_behind links.lists q)
+      (greatest_same (λ node. get_or (map (λ place. place.priority) places ++ replicate idfcs 0) node 0)
+      (priority_of (calls_of idfcs places links)) (λ node. padded (map (λ place. place.priority) places) idfcs node)
+      (list_at links (suc q)))
 
   -- where a call that runs next stands
   pub record StandsIn (q dfc : ℕ) : Type 0 where
@@ -131,11 +166,14 @@ module _ (idfcs : ℕ) (places : List DfcPlace) (priorities : List ℕ) (links :
       record {
         place = first.place;
         at = first.at;
-        low = rw (get_or_from_slice_get (list_at links (suc q)) first.place dfc dfc first.at) at (All-get_or (λ x. x < length places) (list_at links (suc q)) first.place dfc inside (kept.own q));
+        low =
+            rw (get_or_from_slice_get (list_at links (suc q)) first.place dfc dfc first.at) at
+            (All-get_or (λ x. x < length places) (list_at links (suc q)) first.place dfc inside (kept.own q));
       }
 
   -- a call's queue
-  pub home_of : (dfc : ℕ) (place : DfcPlace) → dfc < length places → place ≡ get_or places dfc place → (place.queue ≡ queue_of (calls_of idfcs places links) dfc) × (place.queue + 1 < length links.lists)
+  pub home_of : (dfc : ℕ) (place : DfcPlace) → dfc < length places → place ≡ get_or places dfc place
+      → (place.queue ≡ queue_of (calls_of idfcs places links) dfc) × (place.queue + 1 < length links.lists)
   home_of dfc place low is = (
     ap (λ (p : DfcPlace). p.queue) is ∙ sym (get_or-map (λ (p : DfcPlace). p.queue) places dfc place 0 low),
     rw (← is) at (All-get_or (λ (p : DfcPlace). p.queue + 1 < length links.lists) places dfc place low kept.homes),
@@ -146,14 +184,25 @@ module _ (idfcs : ℕ) (places : List DfcPlace) (priorities : List ℕ) (links :
   next_stands q dfc is =
       stands_in (priority_of (calls_of idfcs places links)) q dfc (sym (rw (read_behind links.lists q) at is))
 
-  pub own_taken : (q dfc : ℕ) → Some dfc ≡ next_of (calls_of idfcs places links) q → calls_of idfcs places (with_list links (suc q) (without dfc (list_at links (suc q)))) ≡ after_next_dfc (calls_of idfcs places links) q
+  pub own_taken : (q dfc : ℕ) → Some dfc ≡ next_of (calls_of idfcs places links) q
+      → calls_of idfcs places (with_list links (suc q) (without dfc (list_at links (suc q))))
+      ≡ after_next_dfc (calls_of idfcs places links) q
   own_taken q dfc is =
-      rw (← is, drop_set links.lists q (without dfc (list_at links (suc q))), first_stays links.lists q (without dfc (list_at links (suc q))), read_behind links.lists q) refl
+      rw (
+        ← is,
+        drop_set links.lists q (without dfc (list_at links (suc q))),
+        first_stays links.lists q (without dfc (list_at links (suc q))),
+        read_behind links.lists q,
+      ) refl
 
   -- a call past the numbers stands in no queue
   pub past_unqueued : (dfc : ℕ) → length places ≤ dfc → is_queued (calls_of idfcs places links) (Move dfc) ≡ false
   past_unqueued dfc past =
-      rw (no_move_past (length places) dfc past (list_at links 0), no_list_past (length places) dfc past (drop 1 links.lists) (λ q. rw (read_behind links.lists q) (kept.own q))) refl
+      rw (
+        no_move_past (length places) dfc past (list_at links 0),
+        no_list_past (length places) dfc past (drop 1 links.lists) (λ q. rw (read_behind links.lists q) (kept.own q)),
+      )
+      refl
 
   -- and what the oldest item leaves
   pub popped_kept : AreKept idfcs places priorities (with_list links 0 (drop 1 (list_at links 0)))
@@ -165,10 +214,14 @@ unheld true fails = absurd (fails refl)
 unheld false fails = refl
 
 -- an item whose node stands on no list may be queued again
-pub node_free : (idfcs : ℕ) (places : List DfcPlace) (priorities : List ℕ) (links : Linked) → AreKept idfcs places priorities links → (node : ℕ) → (list_any (holds node) links.lists ≡ true → ⊥) → is_queued (calls_of idfcs places links) (item_of (length places) node) ≡ false
+pub node_free : (idfcs : ℕ) (places : List DfcPlace) (priorities : List ℕ) (links : Linked)
+    → AreKept idfcs places priorities links → (node : ℕ) → (list_any (holds node) links.lists ≡ true → ⊥)
+    → is_queued (calls_of idfcs places links) (item_of (length places) node) ≡ false
 node_free idfcs places priorities links kept node free =
     node_queued idfcs places priorities links kept node ∙ unheld (list_any (holds node) links.lists) free
 
-pub move_free : (idfcs : ℕ) (places : List DfcPlace) (priorities : List ℕ) (links : Linked) → AreKept idfcs places priorities links → (dfc : ℕ) → dfc < length places → (list_any (holds dfc) links.lists ≡ true → ⊥) → is_queued (calls_of idfcs places links) (Move dfc) ≡ false
+pub move_free : (idfcs : ℕ) (places : List DfcPlace) (priorities : List ℕ) (links : Linked)
+    → AreKept idfcs places priorities links → (dfc : ℕ) → dfc < length places
+    → (list_any (holds dfc) links.lists ≡ true → ⊥) → is_queued (calls_of idfcs places links) (Move dfc) ≡ false
 move_free idfcs places priorities links kept dfc low free =
     move_queued idfcs places priorities links kept dfc low ∙ unheld (list_any (holds dfc) links.lists) free

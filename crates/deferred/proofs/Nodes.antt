@@ -60,7 +60,8 @@ same_idfc calls item node x at =
       ])
     ]
 
-any_same : (p : Item → Bool) (calls : ℕ) (q : ℕ → Bool) → ((x : ℕ) → p (item_of calls x) ≡ q x) → (xs : List ℕ) → list_any p (map (item_of calls) xs) ≡ list_any q xs
+any_same : (p : Item → Bool) (calls : ℕ) (q : ℕ → Bool) → ((x : ℕ) → p (item_of calls x) ≡ q x) → (xs : List ℕ)
+    → list_any p (map (item_of calls) xs) ≡ list_any q xs
 any_same p calls q same [] = refl
 any_same p calls q same (x ∷ xs) = rw (same x, any_same p calls q same xs) refl
 
@@ -86,6 +87,7 @@ none_holds calls d past (x ∷ xs) low =
     let first = All-head P x xs low in
     rw (ne_eqb x d (λ e. omega (arith, first)), none_holds calls d past xs (All-tail P x xs low)) refl
 
-pub no_list_past : (calls d : ℕ) → calls ≤ d → (lists : List (List ℕ)) → ((q : ℕ) → All (λ node. node < calls) (get_or lists q [])) → list_any (holds d) lists ≡ false
+pub no_list_past : (calls d : ℕ) → calls ≤ d → (lists : List (List ℕ))
+    → ((q : ℕ) → All (λ node. node < calls) (get_or lists q [])) → list_any (holds d) lists ≡ false
 no_list_past calls d past [] low = refl
 no_list_past calls d past (list ∷ lists) low = rw (none_holds calls d past list (low 0), no_list_past calls d past lists (λ q. low (suc q))) refl

@@ -13,7 +13,12 @@ item_of calls node = if nat_lt node calls then Move node else Idfc (node - calls
 
 -- the queues that the lists stand for
 abbrev pub calls_of : ℕ → List DfcPlace → Linked → DeferredRows
-calls_of idfcs places links = record { idfcs = idfcs; places = places; immediate = map (item_of (length places)) (list_at links 0); queues = drop 1 links.lists }
+calls_of idfcs places links = record {
+  idfcs = idfcs;
+  places = places;
+  immediate = map (item_of (length places)) (list_at links 0);
+  queues = drop 1 links.lists;
+}
 
 -- the queue of each call has a list, only deferred calls stand in those lists, and each node has its priority
 pub record AreKept (idfcs : ℕ) (places : List DfcPlace) (priorities : List ℕ) (links : Linked) : Type 0 where

@@ -15,11 +15,13 @@ preceded-nil None = refl
 preceded-nil (Some zs) = refl
 
 -- what was read before, and then what this read gave
-pub read_more : (whole old new : Option (List ℕ)) (input bytes : List ℕ) → preceded input old ≡ whole → preceded bytes new ≡ old → preceded (input ++ bytes) new ≡ whole
+pub read_more : (whole old new : Option (List ℕ)) (input bytes : List ℕ) → preceded input old ≡ whole
+    → preceded bytes new ≡ old → preceded (input ++ bytes) new ≡ whole
 read_more whole old new input bytes before now = preceded-append input bytes new ∙ ap (preceded input) now ∙ before
 
 -- where nothing is left, what was read is the whole input
-pub read_all : (whole left : Option (List ℕ)) (input : List ℕ) → preceded input left ≡ whole → IfSome left (λ bytes. bytes ≡ []) → IfSome whole (λ bytes. bytes ≡ input)
+pub read_all : (whole left : Option (List ℕ)) (input : List ℕ) → preceded input left ≡ whole
+    → IfSome left (λ bytes. bytes ≡ []) → IfSome whole (λ bytes. bytes ≡ input)
 read_all whole None input read end = rw (← read) tt
 read_all whole (Some bytes) input read end = rw (← read, end) (append-nil input)
 

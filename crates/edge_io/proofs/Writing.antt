@@ -61,7 +61,8 @@ pub all_but_all : (old : Option (List ℕ)) (text : List ℕ) → WroteAllBut ol
 all_but_all old text = record { front = []; split = refl; wrote = wrote_nothing old }
 
 -- the next part was written
-pub all_but_next : (a b c : Option (List ℕ)) (left part rest text : List ℕ) → WroteAllBut a b left text → left ≡ part ++ rest → Wrote b c part → WroteAllBut a c rest text
+pub all_but_next : (a b c : Option (List ℕ)) (left part rest text : List ℕ) → WroteAllBut a b left text
+    → left ≡ part ++ rest → Wrote b c part → WroteAllBut a c rest text
 all_but_next a b c left part rest text before next wrote = record {
   front = before.front ++ part;
   split = append_assoc before.front part rest ∙ ap (λ t. before.front ++ t) (sym next) ∙ before.split;
@@ -73,9 +74,11 @@ pub all_but_nothing : (a b : Option (List ℕ)) (text : List ℕ) → WroteAllBu
 all_but_nothing a b text before = before.wrote ∙ ap (followed a) (sym (append-nil before.front) ∙ before.split)
 
 -- a prefix of the next part was written
-pub all_but_prefix : (a b c : Option (List ℕ)) (left part rest text : List ℕ) → WroteAllBut a b left text → left ≡ part ++ rest → WrotePrefix b c part → WrotePrefix a c text
+pub all_but_prefix : (a b c : Option (List ℕ)) (left part rest text : List ℕ) → WroteAllBut a b left text
+    → left ≡ part ++ rest → WrotePrefix b c part → WrotePrefix a c text
 all_but_prefix a b c left part rest text before next p =
-    let whole : WrotePrefix a c (before.front ++ (part ++ rest)) = wrote_then_prefix a b c before.front (part ++ rest) before.wrote (prefix_of_more b c part rest p) in
+    let whole : WrotePrefix a c (before.front ++ (part ++ rest)) = wrote_then_prefix a b c before.front
+    (part ++ rest) before.wrote (prefix_of_more b c part rest p) in
     subst (WrotePrefix a c) (ap (λ t. before.front ++ t) (sym next) ∙ before.split) whole
 
 -- the first of a text's bytes are a prefix of it
@@ -83,7 +86,8 @@ pub prefix_of_take : (a b : Option (List ℕ)) (n : ℕ) (text : List ℕ) → W
 prefix_of_take a b n text wrote = record { front = take n text; rest = drop n text; split = take-append-drop n text; wrote = wrote }
 
 -- the first n bytes of a text, and then m of the rest
-pub wrote_more : (a b c : Option (List ℕ)) (n m : ℕ) (text : List ℕ) → Wrote a b (take n text) → Wrote b c (take m (take (length text - n) (drop n text))) → Wrote a c (take (n + m) text)
+pub wrote_more : (a b c : Option (List ℕ)) (n m : ℕ) (text : List ℕ) → Wrote a b (take n text)
+    → Wrote b c (take m (take (length text - n) (drop n text))) → Wrote a c (take (n + m) text)
 wrote_more a b c n m text first second =
     wrote_both a b c (take n text) _ first second ∙ ap (followed a) (ap (λ t. take n text ++ take m t) (take_rest text n) ∙ sym (take-add n m text))
 

@@ -56,7 +56,9 @@ word_is_line xs = widen word_byte line_byte (λ c h. rw h refl) xs
 pub preceded_all : (p : ℕ → Bool) (c : ℕ) (ps : List (List ℕ)) → p c ≡ true → list_all (list_all p) ps ≡ true → list_all p (preceded c ps) ≡ true
 unfolding preceded
 preceded_all p c [] at all = refl
-preceded_all p c (x ∷ xs) at all = let h = both (list_all p x) (list_all (list_all p) xs) all in rw at (list_all_two p x (preceded c xs) h.0 (preceded_all p c xs at h.1))
+preceded_all p c (x ∷ xs) at all =
+    let h = both (list_all p x) (list_all (list_all p) xs) all in
+    rw at (list_all_two p x (preceded c xs) h.0 (preceded_all p c xs at h.1))
 
 pub joined_all : (p : ℕ → Bool) (c : ℕ) (ps : List (List ℕ)) → p c ≡ true → list_all (list_all p) ps ≡ true → list_all p (joined c ps) ≡ true
 unfolding joined
@@ -73,7 +75,9 @@ free_by p c (x ∷ xs) outside all = let h = both (p x) (list_all p xs) all in r
 
 pub all_free : (p : ℕ → Bool) (c : ℕ) (ps : List (List ℕ)) → p c ≡ false → list_all (list_all p) ps ≡ true → list_all (free c) ps ≡ true
 all_free p c [] outside all = refl
-all_free p c (x ∷ xs) outside all = let h = both (list_all p x) (list_all (list_all p) xs) all in rw (free_by p c x outside h.0, all_free p c xs outside h.1) refl
+all_free p c (x ∷ xs) outside all =
+    let h = both (list_all p x) (list_all (list_all p) xs) all in
+    rw (free_by p c x outside h.0, all_free p c xs outside h.1) refl
 
 not_true : (b : Bool) → not b ≡ true → b ≡ false
 not_true true h = cc
@@ -81,7 +85,9 @@ not_true false h = refl
 
 pub none_of_free : (c : ℕ) (xs : List ℕ) → free c xs ≡ true → All (λ b. nat_eq b c ≡ false) xs
 none_of_free c [] h = λ k d below. absurd (omega arith)
-none_of_free c (x ∷ xs) h = let k = both (not (nat_eq x c)) (free c xs) h in All-cons (λ b. nat_eq b c ≡ false) x xs (not_true (nat_eq x c) k.0) (none_of_free c xs k.1)
+none_of_free c (x ∷ xs) h =
+    let k = both (not (nat_eq x c)) (free c xs) h in
+    All-cons (λ b. nat_eq b c ≡ false) x xs (not_true (nat_eq x c) k.0) (none_of_free c xs k.1)
 
 -- numbers
 model : IsNumeralModel (λ ds. all_ascii_digits ds ≡ true) (digits_value 10)

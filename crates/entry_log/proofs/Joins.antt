@@ -20,7 +20,8 @@ unfolding preceded
 preceded-append byte [] ys = refl
 preceded-append byte (x ∷ xs) ys = rw (append_assoc, preceded-append byte xs ys) refl
 
-pub preceded_more : {A : Type 0} (byte : ℕ) (text : A → List ℕ) (xs : List A) (i : ℕ) (d : A) → i < length xs → preceded byte (map text (take (i + 1) xs)) ≡ preceded byte (map text (take i xs)) ++ byte ∷ text (get_or xs i d)
+pub preceded_more : {A : Type 0} (byte : ℕ) (text : A → List ℕ) (xs : List A) (i : ℕ) (d : A) → i < length xs
+    → preceded byte (map text (take (i + 1) xs)) ≡ preceded byte (map text (take i xs)) ++ byte ∷ text (get_or xs i d)
 unfolding preceded
 preceded_more byte text xs i d within = rw (take_more xs i d within, map-append, preceded-append, append-nil) refl
 
@@ -28,10 +29,12 @@ pub preceded_one_more : (byte : ℕ) (piece : List ℕ) (pieces : List (List ℕ
 unfolding preceded
 preceded_one_more byte piece pieces = refl
 
-pub joined_head : (byte : ℕ) (a b c : List ℕ) (xs ys : List (List ℕ)) → joined byte (a ∷ b ∷ c ∷ (xs ++ ys)) ≡ ((a ++ byte ∷ b ++ byte ∷ c) ++ preceded byte xs) ++ preceded byte ys
+pub joined_head : (byte : ℕ) (a b c : List ℕ) (xs ys : List (List ℕ))
+    → joined byte (a ∷ b ∷ c ∷ (xs ++ ys)) ≡ ((a ++ byte ∷ b ++ byte ∷ c) ++ preceded byte xs) ++ preceded byte ys
 unfolding joined
 joined_head byte a b c xs ys = simp (preceded_one_more, preceded-append, append_assoc)
 
-pub joined_row : (byte : ℕ) (a b c d : List ℕ) (xs : List (List ℕ)) → joined byte (a ∷ b ∷ c ∷ d ∷ xs) ≡ (a ++ byte ∷ b ++ byte ∷ c ++ byte ∷ d) ++ preceded byte xs
+pub joined_row : (byte : ℕ) (a b c d : List ℕ) (xs : List (List ℕ))
+    → joined byte (a ∷ b ∷ c ∷ d ∷ xs) ≡ (a ++ byte ∷ b ++ byte ∷ c ++ byte ∷ d) ++ preceded byte xs
 unfolding joined
 joined_row byte a b c d xs = simp (preceded_one_more, append_assoc)

@@ -18,7 +18,9 @@ pieces_first c x t h = slice_split_at (λ b. nat_eq b c) x c t (none_of_free c x
 pieces_more : (c : ℕ) (x : List ℕ) (xs : List (List ℕ)) → free c x ≡ true → list_all (free c) xs ≡ true → pieces c (x ++ preceded c xs) ≡ x ∷ xs
 unfolding preceded
 pieces_more c x [] h all = rw append-nil (pieces_one c x h)
-pieces_more c x (y ∷ ys) h all = let k = both (free c y) (list_all (free c) ys) all in rw (pieces_first c x (y ++ preceded c ys) h, pieces_more c y ys k.0 k.1) refl
+pieces_more c x (y ∷ ys) h all =
+    let k = both (free c y) (list_all (free c) ys) all in
+    rw (pieces_first c x (y ++ preceded c ys) h, pieces_more c y ys k.0 k.1) refl
 
 pub pieces_joined : (c : ℕ) (xs : List (List ℕ)) → 0 < length xs → list_all (free c) xs ≡ true → pieces c (joined c xs) ≡ xs
 unfolding joined

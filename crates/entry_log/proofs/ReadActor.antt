@@ -12,7 +12,11 @@ use Rattle.sym_base.specs.NameText.{name_byte}
 
 -- the actor of a text
 pub read_actor : List ℕ → Actor
-read_actor text = if nat_eq (get_or text 0 0) 116 then (if all_ascii_digits (drop 1 text) then Thread (record { 0 = digits_value 10 (drop 1 text) }) else Tick) else (if nat_eq (get_or text 1 0) 114 then Irq (digits_value 10 (drop 3 text)) else (if nat_eq (get_or text 2 0) 102 then Idfc else Idle))
+read_actor text =
+    if nat_eq (get_or text 0 0) 116 then (if all_ascii_digits (drop 1 text) then Thread
+    (record { 0 = digits_value 10 (drop 1 text) }) else Tick) else
+    (if nat_eq (get_or text 1 0) 114 then Irq (digits_value 10 (drop 3 text)) else
+    (if nat_eq (get_or text 2 0) 102 then Idfc else Idle))
 
 pub actor_read : (actor : Actor) → IsActor actor → read_actor (actor_text actor) ≡ actor
 unfolding read_actor actor_text IsActor

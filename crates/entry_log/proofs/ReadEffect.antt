@@ -49,11 +49,24 @@ lock_name (Fast number) known = list_all_two name_byte (codes "f") (decimal numb
 
 -- the effect of two fields, by the sign or the word that it begins with
 simple : List ℕ → ℕ → Effect
-simple word n = if bytes_eq word (codes "dead") then Dead (record { 0 = n }) else (if bytes_eq word (codes "swept") then Swept (record { 0 = n }) else (if bytes_eq word (codes "seek") then Seek (record { 0 = n }) else (if bytes_eq word (codes "missed") then Missed (record { 0 = n }) else (if bytes_eq word (codes "accept") then Accept (record { 0 = n }) else (if bytes_eq word (codes "ended") then Terminated (record { 0 = n }) else (if bytes_eq word (codes "doom") then Doom (record { 0 = n }) else Bury (record { 0 = n })))))))
+simple word n =
+    if bytes_eq word (codes "dead") then Dead (record { 0 = n }) else
+    (if bytes_eq word (codes "swept") then Swept (record { 0 = n }) else
+    (if bytes_eq word (codes "seek") then Seek (record { 0 = n }) else
+    (if bytes_eq word (codes "missed") then Missed (record { 0 = n }) else
+    (if bytes_eq word (codes "accept") then Accept (record { 0 = n }) else
+    (if bytes_eq word (codes "ended") then Terminated (record { 0 = n }) else
+    (if bytes_eq word (codes "doom") then Doom (record { 0 = n }) else Bury (record { 0 = n })))))))
 
 effect_of : List (List ℕ) → Effect
-effect_of (word ∷ a ∷ []) = if nat_eq (get_or word 0 0) 43 then Plus (read_holder (drop 1 word)) (record { 0 = value a }) else (if nat_eq (get_or word 0 0) 45 then Minus (read_holder (drop 1 word)) (record { 0 = value a }) else simple word (value a))
-effect_of (word ∷ a ∷ b ∷ []) = if bytes_eq word (codes "finish") then Finish (record { 0 = value a }) (read_signed b) else (if bytes_eq word (codes "take") then Take (record { 0 = value a }) (read_lock b) else Give (record { 0 = value a }) (read_lock b))
+effect_of (word ∷ a ∷ []) =
+    if nat_eq (get_or word 0 0) 43 then Plus (read_holder (drop 1 word)) (record { 0 = value a }) else
+    (if nat_eq (get_or word 0 0) 45 then Minus (read_holder (drop 1 word)) (record { 0 = value a }) else simple word
+    (value a))
+effect_of (word ∷ a ∷ b ∷ []) =
+    if bytes_eq word (codes "finish") then Finish (record { 0 = value a }) (read_signed b) else
+    (if bytes_eq word (codes "take") then Take (record { 0 = value a }) (read_lock b) else Give (record { 0 = value a })
+    (read_lock b))
 effect_of (word ∷ a ∷ b ∷ c ∷ []) = Signal (record { 0 = value a }) (read_status b) (read_signed c)
 effect_of fields = Dead (record { 0 = 0 })
 
@@ -67,7 +80,12 @@ effect_again (Seek object) known = rw (decimal_value object.0 (omega arith)) ref
 effect_again (Missed object) known = rw (decimal_value object.0 (omega arith)) refl
 effect_again (Accept message) known = rw (decimal_value message.0 (omega arith)) refl
 effect_again (Finish message code) known = rw (decimal_value message.0 (omega arith), signed_read code (fits_wide code known.1)) refl
-effect_again (Signal thread status code) known = rw (decimal_value thread.0 (omega arith), status_read status known.1, signed_read code (fits_wide code known.2)) refl
+effect_again (Signal thread status code) known =
+    rw (
+      decimal_value thread.0 (omega arith),
+      status_read status known.1,
+      signed_read code (fits_wide code known.2),
+    ) refl
 effect_again (Take thread lock) known = rw (decimal_value thread.0 (omega arith), lock_read lock known.1) refl
 effect_again (Give thread lock) known = rw (decimal_value thread.0 (omega arith), lock_read lock known.1) refl
 effect_again (Terminated server) known = rw (decimal_value server.0 (omega arith)) refl
@@ -77,7 +95,9 @@ effect_again (Bury thread) known = rw (decimal_value thread.0 (omega arith)) ref
 number_field : (n : ℕ) → n < 2 ^ 64 → list_all field_byte (decimal n) ≡ true
 number_field n fits = name_is_field (decimal n) (decimal_name n fits)
 
-reference_fields : (sign : List ℕ) (holder : List ℕ) (n : ℕ) → list_all field_byte sign ≡ true → list_all field_byte holder ≡ true → n < 2 ^ 64 → list_all (list_all field_byte) ((sign ++ holder) ∷ decimal n ∷ []) ≡ true
+reference_fields : (sign : List ℕ) (holder : List ℕ) (n : ℕ) → list_all field_byte sign ≡ true
+    → list_all field_byte holder ≡ true → n < 2 ^ 64
+    → list_all (list_all field_byte) ((sign ++ holder) ∷ decimal n ∷ []) ≡ true
 reference_fields sign holder n s h fits = rw (list_all_two field_byte sign holder s h, number_field n fits) refl
 
 effect_fields_bytes : (effect : Effect) → IsEffect effect → list_all (list_all field_byte) (effect_fields effect) ≡ true
@@ -90,7 +110,12 @@ effect_fields_bytes (Seek object) known = rw (number_field object.0 (omega arith
 effect_fields_bytes (Missed object) known = rw (number_field object.0 (omega arith)) refl
 effect_fields_bytes (Accept message) known = rw (number_field message.0 (omega arith)) refl
 effect_fields_bytes (Finish message code) known = rw (number_field message.0 (omega arith), name_is_field _ (signed_name code (fits_wide code known.1))) refl
-effect_fields_bytes (Signal thread status code) known = rw (number_field thread.0 (omega arith), name_is_field (status_text status) (status_name status known.1), name_is_field _ (signed_name code (fits_wide code known.2))) refl
+effect_fields_bytes (Signal thread status code) known =
+    rw (
+      number_field thread.0 (omega arith),
+      name_is_field (status_text status) (status_name status known.1),
+      name_is_field _ (signed_name code (fits_wide code known.2)),
+    ) refl
 effect_fields_bytes (Take thread lock) known = rw (number_field thread.0 (omega arith), name_is_field _ (lock_name lock known.1)) refl
 effect_fields_bytes (Give thread lock) known = rw (number_field thread.0 (omega arith), name_is_field _ (lock_name lock known.1)) refl
 effect_fields_bytes (Terminated server) known = rw (number_field server.0 (omega arith)) refl
@@ -104,7 +129,10 @@ two_fields other = lit≤ tt
 
 pub effect_pieces : (effect : Effect) → IsEffect effect → pieces 58 (effect_text effect) ≡ effect_fields effect
 unfolding effect_text
-effect_pieces effect known = let some : 2 ≤ length (effect_fields effect) = two_fields effect in pieces_joined 58 (effect_fields effect) (omega arith) (all_free field_byte 58 (effect_fields effect) refl (effect_fields_bytes effect known))
+effect_pieces effect known =
+    let some : 2 ≤ length (effect_fields effect) = two_fields effect in
+    pieces_joined 58 (effect_fields effect) (omega arith)
+    (all_free field_byte 58 (effect_fields effect) refl (effect_fields_bytes effect known))
 
 -- the effect of a text
 pub read_effect : List ℕ → Effect
@@ -116,11 +144,16 @@ effect_read effect known = rw (effect_pieces effect known) (effect_again effect 
 
 -- an effect's text isn't the equals sign that begins an answer
 pub effect_not_answer : (effect : Effect) → IsEffect effect → effect_text effect ≡ codes "=" → ⊥
-effect_not_answer effect known same = let one : codes "=" ∷ [] ≡ effect_fields effect = rw same at (effect_pieces effect known) in let some : 2 ≤ length (effect_fields effect) = two_fields effect in absurd (omega (arith, ap length one))
+effect_not_answer effect known same =
+    let one : codes "=" ∷ [] ≡ effect_fields effect = rw same at (effect_pieces effect known) in
+    let some : 2 ≤ length (effect_fields effect) = two_fields effect in
+    absurd (omega (arith, ap length one))
 
 fields_are_words : (fields : List (List ℕ)) → list_all (list_all field_byte) fields ≡ true → list_all (list_all word_byte) fields ≡ true
 fields_are_words [] all = refl
-fields_are_words (field ∷ fields) all = let h = both (list_all field_byte field) (list_all (list_all field_byte) fields) all in rw (field_is_word field h.0, fields_are_words fields h.1) refl
+fields_are_words (field ∷ fields) all =
+    let h = both (list_all field_byte field) (list_all (list_all field_byte) fields) all in
+    rw (field_is_word field h.0, fields_are_words fields h.1) refl
 
 pub effect_bytes : (effect : Effect) → IsEffect effect → list_all word_byte (effect_text effect) ≡ true
 unfolding effect_text

@@ -23,7 +23,9 @@ first_word (word ∷ words) = word
 -- the step of one or two words
 pub step_of : List (List ℕ) → Step
 unfolding single_steps step_words
-step_of (first ∷ second ∷ []) = if bytes_eq second (codes "run") then RunOf first else (if bytes_eq second (codes "move") then MoveOf first else Of (word_of first) (part_of second))
+step_of (first ∷ second ∷ []) =
+    if bytes_eq second (codes "run") then RunOf first else
+    (if bytes_eq second (codes "move") then MoveOf first else Of (word_of first) (part_of second))
 step_of words = unwrap_or (find (λ step. bytes_eq (first_word (step_words step)) (first_word words)) single_steps) Drop
 
 step_again : (step : Step) → step_of (step_words step) ≡ step
@@ -49,12 +51,18 @@ read_step text = step_of (pieces 46 text)
 
 pub step_read : (step : Step) → IsStep step → read_step (step_text step) ≡ step
 unfolding read_step step_text
-step_read step known = rw (pieces_joined 46 (step_words step) (step_some step) (all_free name_byte 46 (step_words step) refl (step_names step known))) (step_again step)
+step_read step known =
+    rw (pieces_joined 46 (step_words step) (step_some step)
+    (all_free name_byte 46 (step_words step) refl (step_names step known))) (step_again step)
 
 names_are_fields : (words : List (List ℕ)) → list_all (list_all name_byte) words ≡ true → list_all (list_all field_byte) words ≡ true
 names_are_fields [] names = refl
-names_are_fields (word ∷ words) names = let h = both (list_all name_byte word) (list_all (list_all name_byte) words) names in rw (name_is_field word h.0, names_are_fields words h.1) refl
+names_are_fields (word ∷ words) names =
+    let h = both (list_all name_byte word) (list_all (list_all name_byte) words) names in
+    rw (name_is_field word h.0, names_are_fields words h.1) refl
 
 pub step_bytes : (step : Step) → IsStep step → list_all word_byte (step_text step) ≡ true
 unfolding step_text
-step_bytes step known = field_is_word (joined 46 (step_words step)) (joined_all field_byte 46 (step_words step) refl (names_are_fields (step_words step) (step_names step known)))
+step_bytes step known =
+    field_is_word (joined 46 (step_words step))
+    (joined_all field_byte 46 (step_words step) refl (names_are_fields (step_words step) (step_names step known)))

@@ -8,7 +8,11 @@ use Rattle.std.specs.Str.{bytes_eq}
 use Rattle.sym_base.specs.NameText.{name_byte}
 
 all_words : List Word
-all_words = Create ∷ Open ∷ Dup ∷ Duplocal ∷ Close ∷ Lock ∷ Unlock ∷ Wait ∷ Signal ∷ Suspend ∷ Resume ∷ Priority ∷ Kill ∷ Terminate ∷ Panic ∷ Exittype ∷ Logon ∷ Exit ∷ Flock ∷ Funlock ∷ Fswait ∷ Fssignal ∷ Enter ∷ Leave ∷ Queue ∷ Request ∷ Cancel ∷ Waitany ∷ Waitfor ∷ Status ∷ Server ∷ Connect ∷ Send ∷ Call ∷ Receive ∷ Complete ∷ Function ∷ Read ∷ Write ∷ Fill ∷ Peek ∷ []
+all_words =
+    Create ∷ Open ∷ Dup ∷ Duplocal ∷ Close ∷ Lock ∷ Unlock ∷ Wait ∷ Signal ∷ Suspend ∷ Resume ∷ Priority ∷ Kill ∷
+    Terminate ∷ Panic ∷ Exittype ∷ Logon ∷ Exit ∷ Flock ∷ Funlock ∷ Fswait ∷ Fssignal ∷ Enter ∷ Leave ∷ Queue ∷ Request
+    ∷ Cancel ∷ Waitany ∷ Waitfor ∷ Status ∷ Server ∷ Connect ∷ Send ∷ Call ∷ Receive ∷ Complete ∷ Function ∷ Read ∷
+    Write ∷ Fill ∷ Peek ∷ []
 
 -- the word of a text
 pub word_of : List ℕ → Word

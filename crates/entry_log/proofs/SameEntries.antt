@@ -34,7 +34,9 @@ unfolding answer_words
 answer_same None None known_a known_b same = refl
 answer_same None (Some n) known_a known_b same = cc
 answer_same (Some m) None known_a known_b same = cc
-answer_same (Some m) (Some n) known_a known_b same = let text : signed_decimal m ≡ signed_decimal n = cc in ap Some (signed_decimal_injective m n (fits_wide m known_a) (fits_wide n known_b) text)
+answer_same (Some m) (Some n) known_a known_b same =
+    let text : signed_decimal m ≡ signed_decimal n = cc in
+    ap Some (signed_decimal_injective m n (fits_wide m known_a) (fits_wide n known_b) text)
 
 -- what follows the step: the effects, and then the answer
 pub record SameTail (es fs : List Effect) (a b : Option ℤ) : Type 0 where
@@ -46,10 +48,13 @@ unfolding answer_words
 no_effect None f rest known same = cc
 no_effect (Some n) f rest known same = let first : effect_text f ≡ codes "=" = cc in effect_not_answer f known first
 
-tail_same : (es fs : List Effect) (a b : Option ℤ) → All IsEffect es → All IsEffect fs → IfSome a IsCode → IfSome b IsCode → map effect_text es ++ answer_words a ≡ map effect_text fs ++ answer_words b → SameTail es fs a b
+tail_same : (es fs : List Effect) (a b : Option ℤ) → All IsEffect es → All IsEffect fs → IfSome a IsCode
+    → IfSome b IsCode → map effect_text es ++ answer_words a ≡ map effect_text fs ++ answer_words b → SameTail es fs a b
 tail_same [] [] a b known_es known_fs known_a known_b same = record { effects = refl; answer = answer_same a b known_a known_b same }
-tail_same [] (f ∷ fs) a b known_es known_fs known_a known_b same = absurd (no_effect a f (map effect_text fs ++ answer_words b) (All-head IsEffect f fs known_fs) same)
-tail_same (e ∷ es) [] a b known_es known_fs known_a known_b same = absurd (no_effect b e (map effect_text es ++ answer_words a) (All-head IsEffect e es known_es) (sym same))
+tail_same [] (f ∷ fs) a b known_es known_fs known_a known_b same =
+    absurd (no_effect a f (map effect_text fs ++ answer_words b) (All-head IsEffect f fs known_fs) same)
+tail_same (e ∷ es) [] a b known_es known_fs known_a known_b same =
+    absurd (no_effect b e (map effect_text es ++ answer_words a) (All-head IsEffect e es known_es) (sym same))
 tail_same (e ∷ es) (f ∷ fs) a b known_es known_fs known_a known_b same =
     let head : effect_text e ≡ effect_text f = cc in
     let more : map effect_text es ++ answer_words a ≡ map effect_text fs ++ answer_words b = cc in
@@ -71,7 +76,9 @@ entry_same a b known_a known_b same =
     let rest = tail_same a.effects b.effects a.answer b.answer known_a.effects known_b.effects known_a.answer known_b.answer more in
     let wide_a : a.place < 2 ^ 64 = (let h = known_a.place in omega arith) in
     let wide_b : b.place < 2 ^ 64 = (let h = known_b.place in omega arith) in
-    built a b (decimal_injective a.place b.place wide_a wide_b place) (actor_same a.actor b.actor known_a.actor known_b.actor actor) (step_same a.step b.step known_a.step known_b.step step) rest.effects rest.answer
+    built a b (decimal_injective a.place b.place wide_a wide_b place)
+    (actor_same a.actor b.actor known_a.actor known_b.actor actor)
+    (step_same a.step b.step known_a.step known_b.step step) rest.effects rest.answer
 
 effects_bytes : (es : List Effect) → All IsEffect es → list_all (list_all word_byte) (map effect_text es) ≡ true
 effects_bytes [] known = refl
@@ -86,4 +93,11 @@ pub entry_bytes : (e : Entry) → IsEntry e → list_all (list_all word_byte) (e
 unfolding entry_words
 entry_bytes e known =
     let wide : e.place < 2 ^ 64 = (let h = known.place in omega arith) in
-    rw (field_is_word (decimal e.place) (name_is_field (decimal e.place) (decimal_name e.place wide)), actor_bytes e.actor known.actor, step_bytes e.step known.step, list_all-append (list_all word_byte) (map effect_text e.effects) (answer_words e.answer), effects_bytes e.effects known.effects, answer_bytes e.answer known.answer) refl
+    rw (
+      field_is_word (decimal e.place) (name_is_field (decimal e.place) (decimal_name e.place wide)),
+      actor_bytes e.actor known.actor,
+      step_bytes e.step known.step,
+      list_all-append (list_all word_byte) (map effect_text e.effects) (answer_words e.answer),
+      effects_bytes e.effects known.effects,
+      answer_bytes e.answer known.answer,
+    ) refl

@@ -21,10 +21,14 @@ pub queue_thread : (lists : List (List ℕ)) (o : ℕ) → get_or (queues_of lis
 queue_thread lists o = seen_at thread lists o
 
 -- one waiter more, and one less
-pub queue_added : (lists : List (List ℕ)) (o : ℕ) (t : ObjNo) → queues_of (set lists o (get_or lists o [] ++ t.0 ∷ [])) ≡ set (queues_of lists) o (get_or (queues_of lists) o [] ++ t ∷ [])
+pub queue_added : (lists : List (List ℕ)) (o : ℕ) (t : ObjNo)
+    → queues_of (set lists o (get_or lists o [] ++ t.0 ∷ []))
+    ≡ set (queues_of lists) o (get_or (queues_of lists) o [] ++ t ∷ [])
 queue_added lists o t = seen_pushed thread t.0 t refl lists o
 
-pub queue_left : (lists : List (List ℕ)) (o : ℕ) (t : ObjNo) → queues_of (set lists o (nodes.without t.0 (get_or lists o []))) ≡ set (queues_of lists) o (without t (get_or (queues_of lists) o []))
+pub queue_left : (lists : List (List ℕ)) (o : ℕ) (t : ObjNo)
+    → queues_of (set lists o (nodes.without t.0 (get_or lists o [])))
+    ≡ set (queues_of lists) o (without t (get_or (queues_of lists) o []))
 queue_left lists o t = seen_removed thread (λ (other : ObjNo). eqb other.0 t.0) t.0 (λ m. refl) lists o
 
 -- the thread of a number is that number's

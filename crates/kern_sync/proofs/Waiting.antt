@@ -41,27 +41,36 @@ module _ (owners : List (Option Owner)) (counts priorities : List ℕ) (links : 
   }
 
   -- the best waiter is the first node of the greatest weight
-  pub best_is : (o : ObjNo) → best_of (locks_of owners counts priorities links) o ≡ option_map thread (first_of_greatest (λ node. get_or priorities node 0) (list_at links o.0))
+  pub best_is : (o : ObjNo)
+      → best_of (locks_of owners counts priorities links) o
+      ≡ option_map thread (first_of_greatest (λ node. get_or priorities node 0) (list_at links o.0))
   best_is o =
       rw (queue_thread links.lists o.0) (greatest_map (priority_of (locks_of owners counts priorities links)) thread (list_at links o.0))
 
   -- where it stands
-  pub best_stands : (o t : ObjNo) → Some t ≡ best_of (locks_of owners counts priorities links) o → (place : ℕ) × (slice_get (list_at links o.0) place ≡ Some t.0)
+  pub best_stands : (o t : ObjNo) → Some t ≡ best_of (locks_of owners counts priorities links) o
+      → (place : ℕ) × (slice_get (list_at links o.0) place ≡ Some t.0)
   best_stands o t is =
-      let first = is_first_of_greatest (λ node. get_or priorities node 0) (list_at links o.0) t.0 (option_thread t (first_of_greatest (λ node. get_or priorities node 0) (list_at links o.0)) (is ∙ best_is o)) in
+      let first = is_first_of_greatest (λ node. get_or priorities node 0) (list_at links o.0) t.0
+      (option_thread t (first_of_greatest (λ node. get_or priorities node 0) (list_at links o.0)) (is ∙ best_is o)) in
       (first.place, first.at)
 
   -- and what it leaves
-  pub best_left : (o t : ObjNo) → Some t ≡ best_of (locks_of owners counts priorities links) o → locks_of owners counts priorities (with_list links o.0 (nodes.without t.0 (list_at links o.0))) ≡ without_best (locks_of owners counts priorities links) o
+  pub best_left : (o t : ObjNo) → Some t ≡ best_of (locks_of owners counts priorities links) o
+      → locks_of owners counts priorities (with_list links o.0 (nodes.without t.0 (list_at links o.0)))
+      ≡ without_best (locks_of owners counts priorities links) o
   best_left o t is = rw (← is, queue_left links.lists o.0 t) refl
 
 -- a thread whose node stands nowhere waits for nothing
-pub waits_not : (owners : List (Option Owner)) (counts priorities : List ℕ) (links : Linked) (t : ObjNo) → (list_any (nodes.holds t.0) links.lists ≡ true → ⊥) → is_waiting (locks_of owners counts priorities links).rows t ≡ false
+pub waits_not : (owners : List (Option Owner)) (counts priorities : List ℕ) (links : Linked) (t : ObjNo)
+    → (list_any (nodes.holds t.0) links.lists ≡ true → ⊥)
+    → is_waiting (locks_of owners counts priorities links).rows t ≡ false
 waits_not owners counts priorities links t free =
     any_thread t links.lists ∙ unheld (list_any (nodes.holds t.0) links.lists) free
 
 -- nobody is served next exactly where nobody waits
-pub none_best : (s : KernelLocks) (o : ObjNo) (r : Option ObjNo) → r ≡ best_of s o → (is_some r ≡ false → waiters_at s.rows o ≡ []) × (waiters_at s.rows o ≡ [] → is_some r ≡ false)
+pub none_best : (s : KernelLocks) (o : ObjNo) (r : Option ObjNo) → r ≡ best_of s o
+    → (is_some r ≡ false → waiters_at s.rows o ≡ []) × (waiters_at s.rows o ≡ [] → is_some r ≡ false)
 none_best s o r is = (
   λ none. none_greatest (priority_of s) (waiters_at s.rows o) (sym is ∙ option_none r none),
   λ empty. rw (is, empty) refl,
@@ -76,7 +85,9 @@ pub best_none : (s : KernelLocks) (o : ObjNo) → None ≡ best_of s o → s ≡
 best_none s o is = rw (← is, set-get_or s.rows.waiters o.0 []) refl
 
 -- one part written anew and the others as they were
-pub waiters_alone : (r : LockRows) (o : ObjNo) (queue : List ObjNo) → record r { waiters = set r.waiters o.0 queue } ≡ record r { owners = set r.owners o.0 (owner_at r o); waiters = set r.waiters o.0 queue }
+pub waiters_alone : (r : LockRows) (o : ObjNo) (queue : List ObjNo)
+    → record r { waiters = set r.waiters o.0 queue }
+    ≡ record r { owners = set r.owners o.0 (owner_at r o); waiters = set r.waiters o.0 queue }
 waiters_alone r o queue = rw (set-get_or r.owners o.0 None) refl
 
 pub waited : (r : LockRows) (o t : ObjNo) → count_at r o ≡ 0 → record r { waiters = set r.waiters o.0 (waiters_at r o ++ t ∷ []) } ≡ after_wait r o t
@@ -85,11 +96,19 @@ waited r o t zero =
     rw (same, set-get_or r.counts o.0 0, zero) refl
 
 -- a thread that waits stands last
-pub waiter_added : (owners : List (Option Owner)) (counts priorities : List ℕ) (links : Linked) (o t : ObjNo) → (locks_of owners counts priorities (nodes.pushed_back links o.0 t.0)).rows ≡ record (locks_of owners counts priorities links).rows { waiters = set (queues_of links.lists) o.0 (waiters_at (locks_of owners counts priorities links).rows o ++ t ∷ []) }
+pub waiter_added : (owners : List (Option Owner)) (counts priorities : List ℕ) (links : Linked) (o t : ObjNo)
+    → (locks_of owners counts priorities (nodes.pushed_back links o.0 t.0)).rows
+    ≡ record (locks_of owners counts priorities links).rows {
+      waiters = set (queues_of links.lists) o.0
+          (waiters_at (locks_of owners counts priorities links).rows o ++ t ∷ []);
+    }
 waiter_added owners counts priorities links o t = rw (queue_added links.lists o.0 t) refl
 
 -- a thread that leaves all its lists waits for nothing, and where it stands on none nothing changes
-pub waiter_removed : (owners : List (Option Owner)) (counts priorities : List ℕ) (links : Linked) (t : ObjNo) → locks_of owners counts priorities (nodes.unlinked links t.0) ≡ with_rows (locks_of owners counts priorities links) (after_remove (locks_of owners counts priorities links).rows t)
+pub waiter_removed : (owners : List (Option Owner)) (counts priorities : List ℕ) (links : Linked) (t : ObjNo)
+    → locks_of owners counts priorities (nodes.unlinked links t.0)
+    ≡ with_rows (locks_of owners counts priorities links)
+    (after_remove (locks_of owners counts priorities links).rows t)
 waiter_removed owners counts priorities links t = rw (all_without_thread t links.lists) refl
 
 pub waiter_absent : (s : KernelLocks) (t : ObjNo) → is_waiting s.rows t ≡ false → s ≡ with_rows s (after_remove s.rows t)

@@ -15,7 +15,10 @@ queues_of lists = map (map thread) lists
 
 -- what the rows and the lists stand for
 abbrev pub locks_of : List (Option Owner) → List ℕ → List ℕ → Linked → KernelLocks
-locks_of owners counts priorities links = record { rows = record { owners = owners; counts = counts; waiters = queues_of links.lists }; priorities = priorities }
+locks_of owners counts priorities links = record {
+  rows = record { owners = owners; counts = counts; waiters = queues_of links.lists };
+  priorities = priorities;
+}
 
 -- each object has its owner, count and list, and each node is a thread and has its priority
 pub record AreKept (owners : List (Option Owner)) (counts priorities : List ℕ) (links : Linked) : Type 0 where

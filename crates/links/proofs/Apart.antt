@@ -20,7 +20,9 @@ module _ (n : ℕ) (next previous : List ℕ) (lists : List (List ℕ)) (are : A
   before_below l (suc k) listed within = here_below l k listed (omega arith)
 
   -- what stands before a place tells the list and the place
-  pub before_apart : (k j l m : ℕ) → l < length lists → m < length lists → k ≤ length (get_or lists l []) → j ≤ length (get_or lists m []) → before (n + l) (get_or lists l []) k ≡ before (n + m) (get_or lists m []) j → (l ≡ m) × (k ≡ j)
+  pub before_apart : (k j l m : ℕ) → l < length lists → m < length lists → k ≤ length (get_or lists l [])
+      → j ≤ length (get_or lists m []) → before (n + l) (get_or lists l []) k ≡ before (n + m) (get_or lists m []) j
+      → (l ≡ m) × (k ≡ j)
   before_apart zero zero l m in_l in_m at_l at_m same = (omega arith, refl)
   before_apart zero (suc j) l m in_l in_m at_l at_m same = absurd (omega (arith, (are.rings m in_m).below j (omega arith)))
   before_apart (suc k) zero l m in_l in_m at_l at_m same = absurd (omega (arith, (are.rings l in_l).below k (omega arith)))
@@ -31,7 +33,9 @@ module _ (n : ℕ) (next previous : List ℕ) (lists : List (List ℕ)) (are : A
       (rest.0, omega (arith, rest.1))
 
   -- and so does what stands at it
-  pub here_apart : (k j l m : ℕ) → l < length lists → m < length lists → k ≤ length (get_or lists l []) → j ≤ length (get_or lists m []) → here (n + l) (get_or lists l []) k ≡ here (n + m) (get_or lists m []) j → (l ≡ m) × (k ≡ j)
+  pub here_apart : (k j l m : ℕ) → l < length lists → m < length lists → k ≤ length (get_or lists l [])
+      → j ≤ length (get_or lists m []) → here (n + l) (get_or lists l []) k ≡ here (n + m) (get_or lists m []) j
+      → (l ≡ m) × (k ≡ j)
   here_apart k j l m in_l in_m at_l at_m same =
       let left = (are.rings l in_l).backward k at_l in
       let right = (are.rings m in_m).backward j at_m in

@@ -20,7 +20,9 @@ ring_alone n end next previous forth back = record {
     backward zero within = back
     backward (suc k) within = absurd (omega arith)
 
-pub fresh_leads : (n lists : ℕ) (next previous : List ℕ) → n + lists < 2 ^ 32 → length next ≡ n + lists → length previous ≡ n + lists → ((k : ℕ) → k < n + lists → get_or next k 0 ≡ k) → ((k : ℕ) → k < n + lists → get_or previous k 0 ≡ k) → Leads n next previous (replicate lists [])
+pub fresh_leads : (n lists : ℕ) (next previous : List ℕ) → n + lists < 2 ^ 32 → length next ≡ n + lists
+    → length previous ≡ n + lists → ((k : ℕ) → k < n + lists → get_or next k 0 ≡ k)
+    → ((k : ℕ) → k < n + lists → get_or previous k 0 ≡ k) → Leads n next previous (replicate lists [])
 fresh_leads n lists next previous small sized sized' forth back = leads n next previous (replicate lists []) (record {
   next_sized = rw length-replicate sized;
   previous_sized = rw length-replicate sized';

@@ -7,7 +7,9 @@ use Rattle.links.specs.Rings.{here, before, IsRing, AreLinked, IsFree}
 use Rattle.links.proofs.Edits.{IsWith, IsRewritten}
 use Rattle.links.proofs.Apart.{before_apart, here_apart, here_free, before_free}
 
-module _ (n : ℕ) (next previous : List ℕ) (lists : List (List ℕ)) (are : AreLinked n next previous lists) (l j x : ℕ) (ys : List ℕ) (listed : l < length lists) (node : x < n) (free : IsFree lists x) (more : IsWith (get_or lists l []) ys x j) (next' previous' : List ℕ) where
+module _ (n : ℕ) (next previous : List ℕ) (lists : List (List ℕ)) (are : AreLinked n next previous lists) (l j x : ℕ)
+    (ys : List ℕ) (listed : l < length lists) (node : x < n) (free : IsFree lists x)
+    (more : IsWith (get_or lists l []) ys x j) (next' previous' : List ℕ) where
   -- what stands before a place up to the new node's stays
   before_low : (k : ℕ) → k ≤ j → before (n + l) ys k ≡ before (n + l) (get_or lists l []) k
   before_low zero low = refl
@@ -18,17 +20,27 @@ module _ (n : ℕ) (next previous : List ℕ) (lists : List (List ℕ)) (are : A
   before_high zero high = absurd (omega arith)
   before_high (suc k) high = more.above k (n + l) (omega arith)
 
-  module _ (forth : IsRewritten next next' (before (n + l) (get_or lists l []) j) x x (here (n + l) (get_or lists l []) j)) (back : IsRewritten previous previous' x (before (n + l) (get_or lists l []) j) (here (n + l) (get_or lists l []) j) x) where
-    next_stays : (m k : ℕ) → m < length lists → k ≤ length (get_or lists m []) → (l ≡ m → k ≢ j) → get_or next' (before (n + m) (get_or lists m []) k) 0 ≡ here (n + m) (get_or lists m []) k
+  module _ (forth : IsRewritten next next' (before (n + l) (get_or lists l []) j) x x
+      (here (n + l) (get_or lists l []) j)) (back : IsRewritten previous previous' x (before (n + l) (get_or lists l []) j)
+      (here (n + l) (get_or lists l []) j) x) where
+    next_stays : (m k : ℕ) → m < length lists → k ≤ length (get_or lists m []) → (l ≡ m → k ≢ j)
+        → get_or next' (before (n + m) (get_or lists m []) k) 0 ≡ here (n + m) (get_or lists m []) k
     next_stays m k inside within other =
-        forth.others (before (n + m) (get_or lists m []) k) (λ same. let is = before_apart n next previous lists are k j m l inside listed within more.inside same in other (sym is.0) is.1) (before_free n next previous lists are m k x node free) ∙ (are.rings m inside).forward k within
+        forth.others (before (n + m) (get_or lists m []) k)
+        (λ same. let is = before_apart n next previous lists are k j m l inside listed within more.inside same in
+        other (sym is.0) is.1) (before_free n next previous lists are m k x node free)
+        ∙ (are.rings m inside).forward k within
       where
         more_inside : j ≤ length (get_or lists l [])
         more_inside = more.inside
 
-    previous_stays : (m k : ℕ) → m < length lists → k ≤ length (get_or lists m []) → (l ≡ m → k ≢ j) → get_or previous' (here (n + m) (get_or lists m []) k) 0 ≡ before (n + m) (get_or lists m []) k
+    previous_stays : (m k : ℕ) → m < length lists → k ≤ length (get_or lists m []) → (l ≡ m → k ≢ j)
+        → get_or previous' (here (n + m) (get_or lists m []) k) 0 ≡ before (n + m) (get_or lists m []) k
     previous_stays m k inside within other =
-        back.others (here (n + m) (get_or lists m []) k) (here_free n next previous lists are m k x node free) (λ same. let is = here_apart n next previous lists are k j m l inside listed within more.inside same in other (sym is.0) is.1) ∙ (are.rings m inside).backward k within
+        back.others (here (n + m) (get_or lists m []) k) (here_free n next previous lists are m k x node free)
+        (λ same. let is = here_apart n next previous lists are k j m l inside listed within more.inside same in
+        other (sym is.0) is.1)
+        ∙ (are.rings m inside).backward k within
 
     forward_own : (k : ℕ) → k ≤ length ys → get_or next' (before (n + l) ys k) 0 ≡ here (n + l) ys k
     forward_own k within =
@@ -44,7 +56,9 @@ module _ (n : ℕ) (next previous : List ℕ) (lists : List (List ℕ)) (are : A
         forward_high zero high within = absurd (omega arith)
         forward_high (suc k) high within = elim (cases_eq j k) [
           | inl same ↦ rw (more.above k (n + l) (omega arith), ← same, more.at (n + l)) forth.second
-          | inr apart ↦ rw (more.above k (n + l) (omega arith), before_high k (omega arith)) (next_stays l k listed (omega (arith, more.more)) (λ _ e. omega arith))
+          | inr apart ↦
+              rw (more.above k (n + l) (omega arith), before_high k (omega arith))
+              (next_stays l k listed (omega (arith, more.more)) (λ _ e. omega arith))
         ]
 
     backward_own : (k : ℕ) → k ≤ length ys → get_or previous' (here (n + l) ys k) 0 ≡ before (n + l) ys k
@@ -61,7 +75,9 @@ module _ (n : ℕ) (next previous : List ℕ) (lists : List (List ℕ)) (are : A
         backward_high zero high within = absurd (omega arith)
         backward_high (suc k) high within = elim (cases_eq j k) [
           | inl same ↦ rw (more.above k (n + l) (omega arith), ← same, more.at (n + l)) back.second
-          | inr apart ↦ rw (more.above k (n + l) (omega arith), before_high k (omega arith)) (previous_stays l k listed (omega (arith, more.more)) (λ _ e. omega arith))
+          | inr apart ↦
+              rw (more.above k (n + l) (omega arith), before_high k (omega arith))
+              (previous_stays l k listed (omega (arith, more.more)) (λ _ e. omega arith))
         ]
 
     below_own : (k : ℕ) → k < length ys → here (n + l) ys k < n

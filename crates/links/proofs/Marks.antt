@@ -16,7 +16,8 @@ none_first [] r is = (λ none. refl, λ empty. rw is refl)
 none_first (x ∷ xs) r is = (λ none. let no : true ≡ false = rw is at none in absurd (cc), λ empty. absurd (cc))
 
 -- nothing stands behind an element exactly where it is the last
-pub none_behind : (xs : List ℕ) (k x : ℕ) (r : Option ℕ) → slice_get xs k ≡ Some x → r ≡ slice_get xs (suc k) → (is_some r ≡ false → k + 1 ≡ length xs) × (k + 1 ≡ length xs → is_some r ≡ false)
+pub none_behind : (xs : List ℕ) (k x : ℕ) (r : Option ℕ) → slice_get xs k ≡ Some x → r ≡ slice_get xs (suc k)
+    → (is_some r ≡ false → k + 1 ≡ length xs) × (k + 1 ≡ length xs → is_some r ≡ false)
 none_behind xs k x r at is =
     let inside = slice_get_within xs k x at in
     elim (cases_lt (k + 1) (length xs)) [
@@ -46,10 +47,13 @@ listed_from lists l k x at =
 pub held_at : (lists : List (List ℕ)) (l k x : ℕ) → slice_get (get_or lists l []) k ≡ Some x → list_any (holds x) lists ≡ true
 held_at lists l k x at =
     let inside = slice_get_within (get_or lists l []) k x at in
-    list_any_at (holds x) lists l [] (listed_from lists l k x at) (list_any_at (λ y. eqb y x) (get_or lists l []) k x inside (eq-eqb (get_or (get_or lists l []) k x) x (get_or_from_slice_get (get_or lists l []) k x x at)))
+    list_any_at (holds x) lists l [] (listed_from lists l k x at)
+    (list_any_at (λ y. eqb y x) (get_or lists l []) k x inside
+    (eq-eqb (get_or (get_or lists l []) k x) x (get_or_from_slice_get (get_or lists l []) k x x at)))
 
 -- a node that is held stands somewhere
-pub place_of : (lists : List (List ℕ)) (x : ℕ) → list_any (holds x) lists ≡ true → (l : ℕ) × (k : ℕ) × (l < length lists) × (slice_get (get_or lists l []) k ≡ Some x)
+pub place_of : (lists : List (List ℕ)) (x : ℕ) → list_any (holds x) lists ≡ true
+    → (l : ℕ) × (k : ℕ) × (l < length lists) × (slice_get (get_or lists l []) k ≡ Some x)
 place_of lists x held =
     let list = Any-from_list_any (holds x) lists held in
     let at : list.1 ≡ get_or lists list.0 [] = get_or_read lists list.0 list.1 list.2 (sym list.3) [] in
@@ -89,7 +93,8 @@ module _ (n : ℕ) (next previous : List ℕ) (lists : List (List ℕ)) (are : A
       let place = place_of lists x held in
       let inside = slice_get_within (get_or lists place.0 []) place.1 x place.3 in
       let stands : here (n + place.0) (get_or lists place.0 []) place.1 ≡ x = get_or_from_slice_get (get_or lists place.0 []) place.1 x (n + place.0) place.3 in
-      let twice = here_apart n next previous lists are (suc place.1) place.1 place.0 place.0 place.2 place.2 (omega arith) (omega arith) (sym (leads_on place.0 place.1 x place.3) ∙ home ∙ sym stands) in
+      let twice = here_apart n next previous lists are (suc place.1) place.1 place.0 place.0 place.2 place.2
+      (omega arith) (omega arith) (sym (leads_on place.0 place.1 x place.3) ∙ home ∙ sym stands) in
       omega (arith, twice.1)
 
   -- and a node that doesn't lead to itself is on a list
@@ -101,14 +106,17 @@ module _ (n : ℕ) (next previous : List ℕ) (lists : List (List ℕ)) (are : A
       ]
 
   -- so the test whether it leads away tells whether it is on a list
-  pub mark_tells : (x r : ℕ) → x < n → r ≡ get_or next x 0 → (not (eqb r x) ≡ true → list_any (holds x) lists ≡ true) × (list_any (holds x) lists ≡ true → not (eqb r x) ≡ true)
+  pub mark_tells : (x r : ℕ) → x < n → r ≡ get_or next x 0
+      → (not (eqb r x) ≡ true → list_any (holds x) lists ≡ true)
+      × (list_any (holds x) lists ≡ true → not (eqb r x) ≡ true)
   mark_tells x r node led = (
     λ away. held_away x node (λ home. let same : eqb r x ≡ true = eq-eqb r x (led ∙ home) in let no : false ≡ true = rw same at away in cc),
     λ held. rw (ne_eqb r x (λ home. leads_away x held (sym led ∙ home))) refl,
   )
 
   -- an entry that is a node is what stands at its place, and where an end stands nothing does
-  pub here_some : (l k x : ℕ) → l < length lists → k ≤ length (get_or lists l []) → x ≡ here (n + l) (get_or lists l []) k → x < n → Some x ≡ slice_get (get_or lists l []) k
+  pub here_some : (l k x : ℕ) → l < length lists → k ≤ length (get_or lists l [])
+      → x ≡ here (n + l) (get_or lists l []) k → x < n → Some x ≡ slice_get (get_or lists l []) k
   here_some l k x listed within is node =
       elim (cases_lt k (length (get_or lists l []))) [
         | inl inside ↦ sym (read_some (get_or lists l []) k x (n + l) inside (sym is))
@@ -128,5 +136,10 @@ module _ (n : ℕ) (next previous : List ℕ) (lists : List (List ℕ)) (are : A
     below = λ l k x at. let inside = slice_get_within (get_or lists l []) k x at in
         let below = (are.rings l (listed_from lists l k x at)).below k inside in
         rw (get_or_from_slice_get (get_or lists l []) k x (n + l) at) at below;
-    once = λ l m j k x one other. here_apart n next previous lists are j k l m (listed_from lists l j x one) (listed_from lists m k x other) (omega (arith, slice_get_within (get_or lists l []) j x one)) (omega (arith, slice_get_within (get_or lists m []) k x other)) (get_or_from_slice_get (get_or lists l []) j x (n + l) one ∙ sym (get_or_from_slice_get (get_or lists m []) k x (n + m) other));
+    once =
+        λ l m j k x one other. here_apart n next previous lists are j k l m (listed_from lists l j x one)
+        (listed_from lists m k x other) (omega (arith, slice_get_within (get_or lists l []) j x one))
+        (omega (arith, slice_get_within (get_or lists m []) k x other))
+        (get_or_from_slice_get (get_or lists l []) j x (n + l) one
+        ∙ sym (get_or_from_slice_get (get_or lists m []) k x (n + m) other));
   }

@@ -23,21 +23,26 @@ pub record StandsIn (links : Linked) (x list : ℕ) : Type 0 where
   pub at : slice_get (list_at links list) place ≡ Some x
 
 -- a node that isn't the one that is pushed is on no list where it was on none
-pub unheld_pushed : (lists : List (List ℕ)) (l n x : ℕ) → l < length lists → x ≢ n → (list_any (holds x) lists ≡ true → ⊥) → list_any (holds x) (set lists l (get_or lists l [] ++ n ∷ [])) ≡ true → ⊥
+pub unheld_pushed : (lists : List (List ℕ)) (l n x : ℕ) → l < length lists → x ≢ n
+    → (list_any (holds x) lists ≡ true → ⊥) → list_any (holds x) (set lists l (get_or lists l [] ++ n ∷ [])) ≡ true → ⊥
 unheld_pushed lists l n x listed other unheld held =
     let new = set lists l (get_or lists l [] ++ n ∷ []) in
     let place = place_of new x held in
     elim (cases_eq place.0 l) as (λ _. ⊥) [
       | inl here ↦
-          let at : slice_get (get_or lists l [] ++ n ∷ []) place.1 ≡ Some x = rw (here, get_or-set_same lists l (get_or lists l [] ++ n ∷ []) [] listed) at place.3 in
+          let at : slice_get (get_or lists l [] ++ n ∷ []) place.1 ≡ Some x =
+          rw (here, get_or-set_same lists l (get_or lists l [] ++ n ∷ []) [] listed) at place.3 in
           let inside = slice_get_within (get_or lists l [] ++ n ∷ []) place.1 x at in
           let read = get_or_from_slice_get (get_or lists l [] ++ n ∷ []) place.1 x x at in
           elim (cases_lt place.1 (length (get_or lists l []))) as (λ _. ⊥) [
-            | inl low ↦ unheld (held_at lists l place.1 x (read_some (get_or lists l []) place.1 x x low (sym (get_or_append_left (get_or lists l []) (n ∷ []) x place.1 low) ∙ read)))
+            | inl low ↦
+                unheld (held_at lists l place.1 x (read_some (get_or lists l []) place.1 x x low
+                (sym (get_or_append_left (get_or lists l []) (n ∷ []) x place.1 low) ∙ read)))
             | inr high ↦ other (sym read ∙ get_or_push (get_or lists l []) n x place.1 (omega (arith, length_push (get_or lists l []) n)))
           ]
       | inr there ↦
-          let at : slice_get (get_or lists place.0 []) place.1 ≡ Some x = rw (get_or-set_other lists l place.0 (get_or lists l [] ++ n ∷ []) [] there) at place.3 in
+          let at : slice_get (get_or lists place.0 []) place.1 ≡ Some x =
+          rw (get_or-set_other lists l place.0 (get_or lists l [] ++ n ∷ []) [] there) at place.3 in
           unheld (held_at lists place.0 place.1 x at)
     ]
 
@@ -52,7 +57,9 @@ owned_fresh nodes lists = record {
 
 module _ (links : Linked) (owners : List ℕ) (owned : AreOwned links owners) where
   -- another list in the place of one, with numbers to match
-  pub owned_with : (l : ℕ) → l < length links.lists → (list owners' : List ℕ) → length owners' ≡ length owners → All (Own owners' l) list → ((m : ℕ) → m < length links.lists → m ≢ l → All (Own owners' m) (list_at links m)) → AreOwned (with_list links l list) owners'
+  pub owned_with : (l : ℕ) → l < length links.lists → (list owners' : List ℕ) → length owners' ≡ length owners
+      → All (Own owners' l) list → ((m : ℕ) → m < length links.lists → m ≢ l → All (Own owners' m) (list_at links m))
+      → AreOwned (with_list links l list) owners'
   owned_with l listed list owners' same own others = record {
     sized = same ∙ owned.sized;
     own = λ m inside. elim (cases_eq m l) [
@@ -69,22 +76,28 @@ module _ (links : Linked) (owners : List ℕ) (owned : AreOwned links owners) wh
       get_or-set_other owners x (get_or (list_at links m) k x) l 0 other ∙ All-get_or (Own owners m) (list_at links m) k x inside (owned.own m listed))
 
   -- a node comes to a list, and its number with it
-  pub owned_pushed : (l x : ℕ) → l < length links.lists → x < links.nodes → (list_any (holds x) links.lists ≡ true → ⊥) → AreOwned (pushed_back links l x) (set owners x l)
+  pub owned_pushed : (l x : ℕ) → l < length links.lists → x < links.nodes → (list_any (holds x) links.lists ≡ true → ⊥)
+      → AreOwned (pushed_back links l x) (set owners x l)
   owned_pushed l x listed node unheld =
       let place : x < length owners = omega (arith, owned.sized) in
-      owned_with l listed (list_at links l ++ x ∷ []) (set owners x l) (length-set owners x l) (All-push (Own (set owners x l) l) (list_at links l) x (own_set x l l unheld listed) (get_or-set_same owners x l 0 place)) (λ m inside _. own_set x l m unheld inside)
+      owned_with l listed (list_at links l ++ x ∷ []) (set owners x l) (length-set owners x l)
+      (All-push (Own (set owners x l) l) (list_at links l) x (own_set x l l unheld listed)
+      (get_or-set_same owners x l 0 place)) (λ m inside _. own_set x l m unheld inside)
 
   -- a node leaves a list
   pub owned_without : (l x : ℕ) → l < length links.lists → AreOwned (with_list links l (without x (list_at links l))) owners
   owned_without l x listed =
-      owned_with l listed (without x (list_at links l)) owners refl (All-filter (λ other. not (eqb other x)) (Own owners l) (list_at links l) (owned.own l listed)) (λ m inside _. owned.own m inside)
+      owned_with l listed (without x (list_at links l)) owners refl
+      (All-filter (λ other. not (eqb other x)) (Own owners l) (list_at links l) (owned.own l listed))
+      (λ m inside _. owned.own m inside)
 
   -- a node that is on a list is on that of its number
   pub stands_own : (x : ℕ) → list_any (holds x) links.lists ≡ true → StandsIn links x (get_or owners x 0)
   stands_own x held =
       let at = place_of links.lists x held in
       let inside = slice_get_within (list_at links at.0) at.1 x at.3 in
-      let own : get_or owners x 0 ≡ at.0 = rw (get_or_from_slice_get (list_at links at.0) at.1 x x at.3) at (All-get_or (Own owners at.0) (list_at links at.0) at.1 x inside (owned.own at.0 at.2)) in
+      let own : get_or owners x 0 ≡ at.0 = rw (get_or_from_slice_get (list_at links at.0) at.1 x x at.3) at
+      (All-get_or (Own owners at.0) (list_at links at.0) at.1 x inside (owned.own at.0 at.2)) in
       rw own (record { listed = at.2; place = at.1; at = at.3 })
 
   -- a list that holds a node is that of its number
@@ -96,7 +109,9 @@ module _ (links : Linked) (owners : List ℕ) (owned : AreOwned links owners) wh
       rw is at own
 
   -- nothing changes where a node leaves a list on which it doesn't stand
-  pub without_other : (l x : ℕ) → l < length links.lists → (list_any (holds x) links.lists ≡ true → get_or owners x 0 ≢ l) → links ≡ with_list links l (without x (list_at links l))
+  pub without_other : (l x : ℕ) → l < length links.lists
+      → (list_any (holds x) links.lists ≡ true → get_or owners x 0 ≢ l)
+      → links ≡ with_list links l (without x (list_at links l))
   without_other l x listed other =
       let absent = without_absent x (list_at links l) (λ k inside same.
       let held = held_at links.lists l k x (read_some (list_at links l) k x x inside same) in

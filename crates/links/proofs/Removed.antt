@@ -8,7 +8,11 @@ use Rattle.links.specs.Rings.{here, before, IsRing, AreLinked, IsFree}
 use Rattle.links.proofs.Edits.{IsWith, IsRewritten}
 use Rattle.links.proofs.Apart.{before_apart, here_apart, before_free}
 
-module _ (n : ℕ) (next previous : List ℕ) (lists : List (List ℕ)) (are : AreLinked n next previous lists) (l j x : ℕ) (ys : List ℕ) (listed : l < length lists) (more : IsWith ys (get_or lists l []) x j) (next' previous' : List ℕ) (forth : IsRewritten next next' (before (n + l) (get_or lists l []) j) (here (n + l) (get_or lists l []) (suc j)) x x) (back : IsRewritten previous previous' (here (n + l) (get_or lists l []) (suc j)) (before (n + l) (get_or lists l []) j) x x) where
+module _ (n : ℕ) (next previous : List ℕ) (lists : List (List ℕ)) (are : AreLinked n next previous lists) (l j x : ℕ)
+    (ys : List ℕ) (listed : l < length lists) (more : IsWith ys (get_or lists l []) x j) (next' previous' : List ℕ)
+    (forth : IsRewritten next next' (before (n + l) (get_or lists l []) j) (here (n + l) (get_or lists l []) (suc j)) x x)
+    (back : IsRewritten previous previous' (here (n + l) (get_or lists l []) (suc j))
+    (before (n + l) (get_or lists l []) j) x x) where
   -- the node stands at the place
   stands : here (n + l) (get_or lists l []) j ≡ x
   stands = more.at (n + l)
@@ -26,21 +30,37 @@ module _ (n : ℕ) (next previous : List ℕ) (lists : List (List ℕ)) (are : A
   before_high zero high = absurd (omega arith)
   before_high (suc k) high = sym (more.above k (n + l) (omega arith))
 
-  next_stays : (m k : ℕ) → m < length lists → k ≤ length (get_or lists m []) → (l ≡ m → k ≢ j) → (l ≡ m → k ≢ suc j) → get_or next' (before (n + m) (get_or lists m []) k) 0 ≡ here (n + m) (get_or lists m []) k
+  next_stays : (m k : ℕ) → m < length lists → k ≤ length (get_or lists m []) → (l ≡ m → k ≢ j) → (l ≡ m → k ≢ suc j)
+      → get_or next' (before (n + m) (get_or lists m []) k) 0 ≡ here (n + m) (get_or lists m []) k
   next_stays m k inside within not_left not_node =
-      forth.others (before (n + m) (get_or lists m []) k) (λ same. let is = before_apart n next previous lists are k j m l inside listed within (omega (arith, more.more, more.inside)) same in not_left (sym is.0) is.1) (λ same. let is = before_apart n next previous lists are k (suc j) m l inside listed within (omega (arith, more.more, more.inside)) (same ∙ sym stands) in not_node (sym is.0) is.1) ∙ (are.rings m inside).forward k within
+      forth.others (before (n + m) (get_or lists m []) k)
+      (λ same. let is = before_apart n next previous lists are k j m l inside listed within
+      (omega (arith, more.more, more.inside)) same in not_left (sym is.0) is.1)
+      (λ same. let is = before_apart n next previous lists are k (suc j) m l inside listed within
+      (omega (arith, more.more, more.inside)) (same ∙ sym stands) in not_node (sym is.0) is.1)
+      ∙ (are.rings m inside).forward k within
 
-  previous_stays : (m k : ℕ) → m < length lists → k ≤ length (get_or lists m []) → (l ≡ m → k ≢ j) → (l ≡ m → k ≢ suc j) → get_or previous' (here (n + m) (get_or lists m []) k) 0 ≡ before (n + m) (get_or lists m []) k
+  previous_stays : (m k : ℕ) → m < length lists → k ≤ length (get_or lists m []) → (l ≡ m → k ≢ j) → (l ≡ m → k ≢ suc j)
+      → get_or previous' (here (n + m) (get_or lists m []) k) 0 ≡ before (n + m) (get_or lists m []) k
   previous_stays m k inside within not_node not_right =
-      back.others (here (n + m) (get_or lists m []) k) (λ same. let is = here_apart n next previous lists are k (suc j) m l inside listed within (omega (arith, more.more, more.inside)) same in not_right (sym is.0) is.1) (λ same. let is = here_apart n next previous lists are k j m l inside listed within (omega (arith, more.more, more.inside)) (same ∙ sym stands) in not_node (sym is.0) is.1) ∙ (are.rings m inside).backward k within
+      back.others (here (n + m) (get_or lists m []) k)
+      (λ same. let is = here_apart n next previous lists are k (suc j) m l inside listed within
+      (omega (arith, more.more, more.inside)) same in not_right (sym is.0) is.1)
+      (λ same. let is = here_apart n next previous lists are k j m l inside listed within
+      (omega (arith, more.more, more.inside)) (same ∙ sym stands) in not_node (sym is.0) is.1)
+      ∙ (are.rings m inside).backward k within
 
   forward_own : (k : ℕ) → k ≤ length ys → get_or next' (before (n + l) ys k) 0 ≡ here (n + l) ys k
   forward_own k within =
       elim (cases_order k j) [
         | inl same ↦ rw (same, before_low j (omega arith), ← more.above j (n + l) (omega arith)) forth.first
         | inr apart ↦ elim apart [
-          | inl low ↦ rw (before_low k (omega arith), ← more.below k (n + l) low) (next_stays l k listed (omega (arith, more.more)) (λ _ e. omega arith) (λ _ e. omega arith))
-          | inr high ↦ rw (before_high k high, ← more.above k (n + l) (omega arith)) (next_stays l (suc k) listed (omega (arith, more.more)) (λ _ e. omega arith) (λ _ e. omega arith))
+          | inl low ↦
+              rw (before_low k (omega arith), ← more.below k (n + l) low)
+              (next_stays l k listed (omega (arith, more.more)) (λ _ e. omega arith) (λ _ e. omega arith))
+          | inr high ↦
+              rw (before_high k high, ← more.above k (n + l) (omega arith))
+              (next_stays l (suc k) listed (omega (arith, more.more)) (λ _ e. omega arith) (λ _ e. omega arith))
         ]
       ]
 
@@ -49,8 +69,12 @@ module _ (n : ℕ) (next previous : List ℕ) (lists : List (List ℕ)) (are : A
       elim (cases_order k j) [
         | inl same ↦ rw (same, before_low j (omega arith), ← more.above j (n + l) (omega arith)) back.first
         | inr apart ↦ elim apart [
-          | inl low ↦ rw (before_low k (omega arith), ← more.below k (n + l) low) (previous_stays l k listed (omega (arith, more.more)) (λ _ e. omega arith) (λ _ e. omega arith))
-          | inr high ↦ rw (before_high k high, ← more.above k (n + l) (omega arith)) (previous_stays l (suc k) listed (omega (arith, more.more)) (λ _ e. omega arith) (λ _ e. omega arith))
+          | inl low ↦
+              rw (before_low k (omega arith), ← more.below k (n + l) low)
+              (previous_stays l k listed (omega (arith, more.more)) (λ _ e. omega arith) (λ _ e. omega arith))
+          | inr high ↦
+              rw (before_high k high, ← more.above k (n + l) (omega arith))
+              (previous_stays l (suc k) listed (omega (arith, more.more)) (λ _ e. omega arith) (λ _ e. omega arith))
         ]
       ]
 
@@ -132,10 +156,13 @@ module _ (n : ℕ) (next previous : List ℕ) (lists : List (List ℕ)) (are : A
             let short : k < length ys = rw own at inside in
             elim (cases_lt k j) as (λ _. ⊥) [
               | inl low ↦
-                  let twice = here_apart n next previous lists are k j l l listed listed (omega (arith, more.more)) (omega (arith, more.more, more.inside)) (more.below k (n + l) low ∙ is ∙ sym stands) in
+                  let twice = here_apart n next previous lists are k j l l listed listed (omega (arith, more.more))
+                  (omega (arith, more.more, more.inside)) (more.below k (n + l) low ∙ is ∙ sym stands) in
                   omega (arith, twice.1)
               | inr high ↦
-                  let twice = here_apart n next previous lists are (suc k) j l l listed listed (omega (arith, more.more)) (omega (arith, more.more, more.inside)) (more.above k (n + l) high ∙ is ∙ sym stands) in
+                  let twice = here_apart n next previous lists are (suc k) j l l listed listed
+                  (omega (arith, more.more)) (omega (arith, more.more, more.inside))
+                  (more.above k (n + l) high ∙ is ∙ sym stands) in
                   omega (arith, twice.1)
             ]
         | inr other ↦
@@ -148,7 +175,9 @@ module _ (n : ℕ) (next previous : List ℕ) (lists : List (List ℕ)) (are : A
           let inside = slice_get_within (get_or lists m []) k x at in
           elim (cases_lt m (length lists)) as (λ _. ⊥) [
             | inl within ↦
-                let twice = here_apart n next previous lists are k j m l within listed (omega arith) (omega (arith, more.more, more.inside)) (get_or_from_slice_get (get_or lists m []) k x (n + m) at ∙ sym stands) in
+                let twice = here_apart n next previous lists are k j m l within listed (omega arith)
+                (omega (arith, more.more, more.inside))
+                (get_or_from_slice_get (get_or lists m []) k x (n + m) at ∙ sym stands) in
                 other twice.0
             | inr past ↦ let none : get_or lists m [] ≡ [] = get_or_past lists m [] past in let short : k < 0 = rw none at inside in omega arith
           ]

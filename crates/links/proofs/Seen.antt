@@ -19,13 +19,17 @@ module _ {X : Type 0} where
   seen_fresh f (suc n) = ap (λ (rest : List (List X)). [] ∷ rest) (seen_fresh f n)
 
   -- a node that comes to a list, seen
-  pub seen_pushed : (f : ℕ → X) (n : ℕ) (x : X) → f n ≡ x → (lists : List (List ℕ)) (l : ℕ) → map (map f) (set lists l (get_or lists l [] ++ n ∷ [])) ≡ set (map (map f) lists) l (get_or (map (map f) lists) l [] ++ x ∷ [])
+  pub seen_pushed : (f : ℕ → X) (n : ℕ) (x : X) → f n ≡ x → (lists : List (List ℕ)) (l : ℕ)
+      → map (map f) (set lists l (get_or lists l [] ++ n ∷ []))
+      ≡ set (map (map f) lists) l (get_or (map (map f) lists) l [] ++ x ∷ [])
   seen_pushed f n x is lists l =
-      let last : map f (get_or lists l [] ++ n ∷ []) ≡ get_or (map (map f) lists) l [] ++ x ∷ [] = map-append f (get_or lists l []) (n ∷ []) ∙ rw (seen_at f lists l, is) refl in
+      let last : map f (get_or lists l [] ++ n ∷ []) ≡ get_or (map (map f) lists) l [] ++ x ∷ [] =
+      map-append f (get_or lists l []) (n ∷ []) ∙ rw (seen_at f lists l, is) refl in
       map-set (map f) lists l (get_or lists l [] ++ n ∷ []) ∙ ap (set (map (map f) lists) l) last
 
   -- the first of a list, seen
-  pub seen_first : (f : ℕ → X) (lists : List (List ℕ)) (l : ℕ) (r : Option ℕ) → r ≡ slice_get (get_or lists l []) 0 → option_map f r ≡ slice_get (get_or (map (map f) lists) l []) 0
+  pub seen_first : (f : ℕ → X) (lists : List (List ℕ)) (l : ℕ) (r : Option ℕ) → r ≡ slice_get (get_or lists l []) 0
+      → option_map f r ≡ slice_get (get_or (map (map f) lists) l []) 0
   seen_first f lists l r is =
       ap (option_map f) is ∙ sym (slice_get-map f (get_or lists l []) 0) ∙ ap (λ (list : List X). slice_get list 0) (sym (seen_at f lists l))
 
@@ -54,6 +58,9 @@ module _ {X : Type 0} where
     seen_unlinked (list ∷ lists) = rw (seen_without list, seen_unlinked lists) refl
 
     -- and from the list of a number
-    pub seen_removed : (lists : List (List ℕ)) (l : ℕ) → map (map f) (set lists l (without n (get_or lists l []))) ≡ set (map (map f) lists) l (filter (λ x. not (same x)) (get_or (map (map f) lists) l []))
+    pub seen_removed : (lists : List (List ℕ)) (l : ℕ) → map (map f) (set lists l (without n (get_or lists l [])))
+        ≡ set (map (map f) lists) l (filter (λ x. not (same x)) (get_or (map (map f) lists) l []))
     seen_removed lists l =
-        map-set (map f) lists l (without n (get_or lists l [])) ∙ ap (set (map (map f) lists) l) (seen_without (get_or lists l []) ∙ ap (filter (λ x. not (same x))) (sym (seen_at f lists l)))
+        map-set (map f) lists l (without n (get_or lists l []))
+        ∙ ap (set (map (map f) lists) l) (seen_without (get_or lists l [])
+        ∙ ap (filter (λ x. not (same x))) (sym (seen_at f lists l)))

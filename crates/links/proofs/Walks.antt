@@ -14,7 +14,9 @@ distinct_from : (xs : List ℕ) → ((i j : ℕ) → i < j → j < length xs →
 unfolding IsDistinct
 distinct_from [] apart = tt
 distinct_from (x ∷ xs) apart = (
-  recursion_from_All (λ y. eqb x y ≡ false) xs (All-from_get_or (λ y. eqb x y ≡ false) xs 0 (λ i inside. ne_eqb x (get_or xs i 0) (apart 0 (suc i) (omega arith) (omega arith)))),
+  recursion_from_All (λ y. eqb x y ≡ false) xs
+      (All-from_get_or (λ y. eqb x y ≡ false) xs 0
+      (λ i inside. ne_eqb x (get_or xs i 0) (apart 0 (suc i) (omega arith) (omega arith)))),
   distinct_from xs (λ i j low inside. apart (suc i) (suc j) (omega arith) (omega arith)),
 )
 
@@ -25,7 +27,9 @@ module _ (n : ℕ) (next previous : List ℕ) (lists : List (List ℕ)) (are : A
       length-le_from_distinct_below (get_or lists l []) n
       (distinct_from (get_or lists l []) (λ i j low inside same.
       let short : i < length (get_or lists l []) = omega arith in
-      let twice = here_apart n next previous lists are i j l l listed listed (omega arith) (omega arith) (get_or_default (get_or lists l []) i (n + l) 0 short ∙ same ∙ get_or_default (get_or lists l []) j 0 (n + l) inside) in
+      let twice = here_apart n next previous lists are i j l l listed listed (omega arith) (omega arith)
+      (get_or_default (get_or lists l []) i (n + l) 0 short ∙ same
+      ∙ get_or_default (get_or lists l []) j 0 (n + l) inside) in
       absurd (omega (arith, twice.1))))
       (λ q any.
       let some = Any-from_list_any (eqb q) (get_or lists l []) any in
@@ -35,7 +39,9 @@ module _ (n : ℕ) (next previous : List ℕ) (lists : List (List ℕ)) (are : A
       omega arith)
 
   -- a walk of enough steps gives what is left of the list
-  walk_rest : (steps l k : ℕ) → l < length lists → k ≤ length (get_or lists l []) → length (get_or lists l []) < k + steps → walk steps next (n + l) (before (n + l) (get_or lists l []) k) ≡ drop k (get_or lists l [])
+  walk_rest : (steps l k : ℕ) → l < length lists → k ≤ length (get_or lists l [])
+      → length (get_or lists l []) < k + steps
+      → walk steps next (n + l) (before (n + l) (get_or lists l []) k) ≡ drop k (get_or lists l [])
   walk_rest zero l k listed within enough = absurd (omega arith)
   walk_rest (suc steps) l k listed within enough =
       let led = (are.rings l listed).forward k within in
@@ -46,7 +52,13 @@ module _ (n : ℕ) (next previous : List ℕ) (lists : List (List ℕ)) (are : A
         | inr more ↦
             let inside : k < length (get_or lists l []) = omega arith in
             let below = (are.rings l listed).below k inside in
-            rw (led, ne_eqb (here (n + l) (get_or lists l []) k) (n + l) (λ e. omega arith), drop-cons (get_or lists l []) k (n + l)) (ap (λ rest. here (n + l) (get_or lists l []) k ∷ rest) (walk_rest steps l (suc k) listed (omega arith) (omega arith)))
+            rw (
+              led,
+              ne_eqb (here (n + l) (get_or lists l []) k) (n + l) (λ e. omega arith),
+              drop-cons (get_or lists l []) k (n + l),
+            )
+            (ap (λ rest. here (n + l) (get_or lists l []) k ∷ rest)
+            (walk_rest steps l (suc k) listed (omega arith) (omega arith)))
       ]
 
   lists_from_is : (k l end : ℕ) → k + l ≡ length lists → end ≡ n + l → lists_from k next end ≡ drop l lists
@@ -60,4 +72,7 @@ module _ (n : ℕ) (next previous : List ℕ) (lists : List (List ℕ)) (are : A
 
   -- the lists that the neighbours stand for are these
   pub lists_of_is : lists_of n next ≡ lists
-  lists_of_is = let sized = are.next_sized in let count : length next - n ≡ length lists = omega arith in rw count (lists_from_is (length lists) 0 n (omega arith) (omega arith))
+  lists_of_is =
+      let sized = are.next_sized in
+      let count : length next - n ≡ length lists = omega arith in
+      rw count (lists_from_is (length lists) 0 n (omega arith) (omega arith))

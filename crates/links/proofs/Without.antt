@@ -29,9 +29,12 @@ with_cons y xs ys x place more = record {
     above (suc k) d high = more.above k d (omega arith)
 
 -- where it stands once, the list is what is left with it at that place
-pub with_without : (x : ℕ) (xs : List ℕ) (place : ℕ) → place < length xs → get_or xs place x ≡ x → ((k : ℕ) → k < length xs → k ≢ place → get_or xs k x ≢ x) → IsWith (without x xs) xs x place
+pub with_without : (x : ℕ) (xs : List ℕ) (place : ℕ) → place < length xs → get_or xs place x ≡ x
+    → ((k : ℕ) → k < length xs → k ≢ place → get_or xs k x ≢ x) → IsWith (without x xs) xs x place
 with_without x [] place inside at alone = absurd (omega arith)
 with_without x (y ∷ ys) zero inside at alone =
     rw (eq-eqb y x at, without_absent x ys (λ k short. alone (suc k) (omega arith) (λ e. omega arith)), at) (with_front ys x)
 with_without x (y ∷ ys) (suc place) inside at alone =
-    rw (ne_eqb y x (alone 0 (omega arith) (λ e. omega arith))) (with_cons y (without x ys) ys x place (with_without x ys place (omega arith) at (λ k short other. alone (suc k) (omega arith) (λ e. other (omega arith)))))
+    rw (ne_eqb y x (alone 0 (omega arith) (λ e. omega arith)))
+    (with_cons y (without x ys) ys x place (with_without x ys place (omega arith) at
+    (λ k short other. alone (suc k) (omega arith) (λ e. other (omega arith)))))

@@ -57,7 +57,8 @@ pub kernel_threads : (ds : List ThreadDecl) → length (born_threads None 0 0 ds
 unfolding next
 kernel_threads ds = threads_of_group None 0 0 ds
 
-processes_length : (threads : List ThreadDecl) (j p : ℕ) (ds : List ProcessDecl) → length (born_processes threads j p ds) ≤ length ds + count_from (Some j) threads
+processes_length : (threads : List ThreadDecl) (j p : ℕ) (ds : List ProcessDecl)
+    → length (born_processes threads j p ds) ≤ length ds + count_from (Some j) threads
 processes_length threads j p [] = omega arith
 processes_length threads j p (d ∷ ds) =
     let own = born_threads (Some j) p 0 threads in

@@ -11,7 +11,11 @@ use Rattle.machine.specs.Holdings.{has_one_left, held_handles, left_of, process_
 use Rattle.machine.specs.References.{total}
 use Rattle.machine.specs.Rows.{table_of, thread_of}
 
-pub doomed_handles : (S : State) (t : ObjNo) (row : ThreadRow) → thread_of S t ≡ Some row → row.stage ≡ Doomed → process_handles S t row.process ≡ (if has_one_left S row.process then held_handles (InProcess row.process) 0 (table_of S row.process) else [])
+pub doomed_handles : (S : State) (t : ObjNo) (row : ThreadRow) → thread_of S t ≡ Some row → row.stage ≡ Doomed
+    → process_handles S t row.process ≡ (if has_one_left S row.process then held_handles (InProcess row.process) 0
+    (table_of S row.process) else [])
 doomed_handles S t row is doomed =
-    let own : left_of row.process (thread_of S t) ≡ 1 = ap (left_of row.process) is ∙ (ap (λ (b : Bool). if b then stage_left row.stage else 0) (eq-eqb row.process.0 row.process.0 refl) ∙ ap stage_left doomed) in
+    let own : left_of row.process (thread_of S t) ≡ 1 = ap (left_of row.process) is
+    ∙ (ap (λ (b : Bool). if b then stage_left row.stage else 0) (eq-eqb row.process.0 row.process.0 refl)
+    ∙ ap stage_left doomed) in
     ap (λ (n : ℕ). if total (left_of row.process) S.references.threads == n then held_handles (InProcess row.process) 0 (table_of S row.process) else []) own

@@ -11,7 +11,8 @@ number_small : (local : Bool) (handle instance : ℕ) → instance ≤ 16383 →
 number_small true handle instance few is = omega arith
 number_small false handle instance few is = omega arith
 
-named_small : (local : Bool) (handle : ℕ) (slot : HandleSlot) (named : Bool) → slot.instance ≤ 16383 → (handle_number local (index_of handle) slot.instance == handle) ≡ named
+named_small : (local : Bool) (handle : ℕ) (slot : HandleSlot) (named : Bool) → slot.instance ≤ 16383
+    → (handle_number local (index_of handle) slot.instance == handle) ≡ named
     → IfSome (if named then slot.object else None) (λ o. handle < 2147483648)
 named_small local handle slot false few is = tt
 named_small local handle slot true few is = object_small slot.object (number_small local handle slot.instance few (eqb-true _ _ is))
@@ -20,6 +21,9 @@ named_small local handle slot true few is = object_small slot.object (number_sma
     object_small None small = tt
     object_small (Some o) small = small
 
-pub look_small : (local : Bool) (slots : List HandleSlot) (handle : ℕ) (found : Option ObjNo) → found ≡ look local slots handle → ((i : ℕ) → (slot_at slots i).instance ≤ 16383) → IfSome found (λ o. handle < 2147483648)
+pub look_small : (local : Bool) (slots : List HandleSlot) (handle : ℕ) (found : Option ObjNo)
+    → found ≡ look local slots handle → ((i : ℕ) → (slot_at slots i).instance ≤ 16383)
+    → IfSome found (λ o. handle < 2147483648)
 look_small local slots handle found is few =
-    subst (λ (x : Option ObjNo). IfSome x (λ o. handle < 2147483648)) (sym is) (named_small local handle (slot_at slots (index_of handle)) _ (few (index_of handle)) refl)
+    subst (λ (x : Option ObjNo). IfSome x (λ o. handle < 2147483648)) (sym is)
+    (named_small local handle (slot_at slots (index_of handle)) _ (few (index_of handle)) refl)

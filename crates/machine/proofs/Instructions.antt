@@ -37,9 +37,13 @@ all_at test (y ∷ ys) (suc k) x all at = all_at test ys k x (both (test y) (lis
 
 -- what holds of each instruction of a script
 abbrev pub Each : Script → (Instr → Type 0) → Type 0
-Each script P = (k : ℕ) (thread : ThreadDecl) → slice_get script.threads k ≡ Some thread → (j : ℕ) (what : Instr) → slice_get thread.instrs j ≡ Some what → P what
+Each script P =
+    (k : ℕ) (thread : ThreadDecl) → slice_get script.threads k ≡ Some thread → (j : ℕ) (what : Instr)
+    → slice_get thread.instrs j ≡ Some what → P what
 
-in_declaration : (script : Script) (P : Instr → Type 0) → Each script P → (role : Role) (declared : Option ThreadDecl) → declared_of script role ≡ declared → (place : ℕ) (instr : Instr) → slice_get (instructions_in declared) place ≡ Some instr → P instr
+in_declaration : (script : Script) (P : Instr → Type 0) → Each script P → (role : Role) (declared : Option ThreadDecl)
+    → declared_of script role ≡ declared → (place : ℕ) (instr : Instr)
+    → slice_get (instructions_in declared) place ≡ Some instr → P instr
 in_declaration script P each role None at place instr there = absurd (cc)
 in_declaration script P each Supervisor (Some declared) at place instr there = absurd (cc)
 in_declaration script P each (Queue queue) (Some declared) at place instr there = absurd (cc)
@@ -50,16 +54,24 @@ pub of_instruction : (script : Script) (P : Instr → Type 0) → Each script P 
 of_instruction script P each row instr there = in_declaration script P each row.role _ refl row.next_instruction instr there
 
 -- a test that each passes
-pub each_test : (script : Script) (test : Instr → Bool) → list_all (λ (t : ThreadDecl). list_all test t.instrs) script.threads ≡ true → Each script (λ what. test what ≡ true)
-each_test script test all k thread at j what stands = all_at test thread.instrs j what (all_at (λ (t : ThreadDecl). list_all test t.instrs) script.threads k thread all at) stands
+pub each_test : (script : Script) (test : Instr → Bool)
+    → list_all (λ (t : ThreadDecl). list_all test t.instrs) script.threads ≡ true
+    → Each script (λ what. test what ≡ true)
+each_test script test all k thread at j what stands =
+    all_at test thread.instrs j what (all_at
+    (λ (t : ThreadDecl). list_all test t.instrs) script.threads k thread all at) stands
 
 -- of what a thread of a row does of its own
-of_step : (script : Script) (P : Instr → Type 0) → Each script P → (protected : Bool) (row : ThreadRow) (instr : Instr) (at : Option Instr) → instruction script row ≡ at → step_or_end protected at ≡ Step instr → P instr
+of_step : (script : Script) (P : Instr → Type 0) → Each script P
+    → (protected : Bool) (row : ThreadRow) (instr : Instr) (at : Option Instr) → instruction script row ≡ at
+    → step_or_end protected at ≡ Step instr → P instr
 of_step script P each true row instr None is next = absurd (cc)
 of_step script P each false row instr None is next = absurd (cc)
 of_step script P each protected row instr (Some x) is next = of_instruction script P each row instr (cc)
 
-of_work : (script : Script) (P : Instr → Type 0) → Each script P → (protected : Bool) (work : List Holding) (row : ThreadRow) (instr : Instr) (at : Option Instr) → instruction script row ≡ at → work_or work (step_or_end protected at) ≡ Step instr → P instr
+of_work : (script : Script) (P : Instr → Type 0) → Each script P
+    → (protected : Bool) (work : List Holding) (row : ThreadRow) (instr : Instr) (at : Option Instr)
+    → instruction script row ≡ at → work_or work (step_or_end protected at) ≡ Step instr → P instr
 of_work script P each protected [] row instr at is next = of_step script P each protected row instr at is next
 of_work script P each protected (what ∷ rest) row instr at is next = absurd (cc)
 
@@ -71,7 +83,11 @@ no_call : (call : Option ℕ) (instr : Instr) → option_map call_task call ≡ 
 no_call None instr next = cc
 no_call (Some dfc) instr next = no_call_step dfc instr (nat_lt dfc 64) (cc)
 
-of_own : (script : Script) (P : Instr → Type 0) → Each script P → (protected : Bool) (work : List Holding) (role : Role) (call : Option ℕ) (row : ThreadRow) (instr : Instr) (at : Option Instr) → instruction script row ≡ at → live_task role call (work_or work (step_or_end protected at)) ≡ Some (Step instr) → P instr
+of_own : (script : Script) (P : Instr → Type 0) → Each script P
+    → (protected : Bool) (work : List Holding) (role : Role) (call : Option ℕ) (row : ThreadRow) (instr : Instr)
+    (at : Option Instr)
+    → instruction script row ≡ at → live_task role call (work_or work (step_or_end protected at)) ≡ Some (Step instr)
+    → P instr
 of_own script P each protected work Supervisor call row instr at is next = absurd (no_call call instr next)
 of_own script P each protected work (Queue queue) call row instr at is next = absurd (no_call call instr next)
 of_own script P each protected work (Declared k) call row instr at is next = of_work script P each protected work row instr at is (cc)
@@ -81,14 +97,18 @@ no_dying : (has : List Holding) (instr : Instr) → Some (dying_task has) ≡ So
 no_dying [] instr next = cc
 no_dying (what ∷ rest) instr next = cc
 
-of_stage : (script : Script) (P : Instr → Type 0) → Each script P → (stage : Stage) (has : List Holding) (own : Option Task) (instr : Instr) → (own ≡ Some (Step instr) → P instr) → by_stage stage has own ≡ Some (Step instr) → P instr
+of_stage : (script : Script) (P : Instr → Type 0) → Each script P
+    → (stage : Stage) (has : List Holding) (own : Option Task) (instr : Instr) → (own ≡ Some (Step instr) → P instr)
+    → by_stage stage has own ≡ Some (Step instr) → P instr
 of_stage script P each Live has own instr of next = of next
 of_stage script P each Doomed has own instr of next = absurd (no_dying has instr next)
 of_stage script P each Cleaned has own instr of next = absurd (cc)
 of_stage script P each Buried has own instr of next = absurd (cc)
 
 -- of the step of a row
-of_row : (P : Instr → Type 0) (returns : Bool) (at : Option Instr) (first : Option Owed) (staged : Option Task) (instr : Instr) → (staged ≡ Some (Step instr) → P instr)
+of_row : (P : Instr → Type 0) (returns : Bool) (at : Option Instr) (first : Option Owed) (staged : Option Task)
+    (instr : Instr)
+    → (staged ≡ Some (Step instr) → P instr)
     → return_or returns at (pay_or first staged) ≡ Some (Step instr) → P instr
 of_row P true (Some x) first staged instr of next = absurd (cc)
 of_row P true None (Some what) staged instr of next = absurd (cc)
@@ -97,20 +117,27 @@ of_row P true None None staged instr of next = of next
 of_row P false at None staged instr of next = of next
 
 -- of a step that a thread does next
-pub of_task : (script : Script) (P : Instr → Type 0) → Each script P → (S : State) (t : ObjNo) (row : Option ThreadRow) (instr : Instr) → task_of_row script S t row ≡ Some (Step instr) → P instr
+pub of_task : (script : Script) (P : Instr → Type 0) → Each script P
+    → (S : State) (t : ObjNo) (row : Option ThreadRow) (instr : Instr) → task_of_row script S t row ≡ Some (Step instr)
+    → P instr
 of_task script P each S t None instr next = absurd (cc)
 of_task script P each S t (Some row) instr next =
     let at = instruction script row in
-    let own = live_task row.role (next_call S.synchronization.deferred row.role) (work_or (held_servers S t) (step_or_end (is_protected S.synchronization.nano t) at)) in
+    let own = live_task row.role (next_call S.synchronization.deferred row.role)
+    (work_or (held_servers S t) (step_or_end (is_protected S.synchronization.nano t) at)) in
     of_row P (is_returning row.part) at (first_owed S t) (by_stage row.stage (holdings S t row) own) instr
     (of_stage script P each row.stage (holdings S t row) own instr
-    (of_own script P each (is_protected S.synchronization.nano t) (held_servers S t) row.role (next_call S.synchronization.deferred row.role) row instr at refl))
+    (of_own script P each (is_protected S.synchronization.nano t) (held_servers S t) row.role
+    (next_call S.synchronization.deferred row.role) row instr at refl))
     next
 
 -- the registers that it names are there, and its numbers are in their ranges
-pub task_has_registers : (script : Script) (S : State) (t : ObjNo) (row : Option ThreadRow) (instr : Instr) → IsShaped script → task_of_row script S t row ≡ Some (Step instr) → HasRegisters instr
+pub task_has_registers : (script : Script) (S : State) (t : ObjNo) (row : Option ThreadRow) (instr : Instr)
+    → IsShaped script → task_of_row script S t row ≡ Some (Step instr) → HasRegisters instr
 task_has_registers script S t row instr shaped next = of_task script HasRegisters (λ k thread at. (shaped.threads k thread at).registers) S t row instr next
 
-pub task_has_ranges : (script : Script) (S : State) (t : ObjNo) (row : Option ThreadRow) (instr : Instr) → IsShaped script → task_of_row script S t row ≡ Some (Step instr) → is_source_line (line.Instr instr) ≡ true
+pub task_has_ranges : (script : Script) (S : State) (t : ObjNo) (row : Option ThreadRow) (instr : Instr)
+    → IsShaped script → task_of_row script S t row ≡ Some (Step instr) → is_source_line (line.Instr instr) ≡ true
 task_has_ranges script S t row instr shaped next =
-    of_task script (λ what. is_source_line (line.Instr what) ≡ true) (each_test script (λ what. is_source_line (line.Instr what)) shaped.numbers.instrs) S t row instr next
+    of_task script (λ what. is_source_line (line.Instr what) ≡ true)
+    (each_test script (λ what. is_source_line (line.Instr what)) shaped.numbers.instrs) S t row instr next

@@ -35,4 +35,8 @@ give_held t (Some f) = Nano (Give t f) ∷ []
 
 -- at its list's end a thread gives up what protects it, and is doomed where an exit is noted
 abbrev pub flush : State → ObjNo → Decision
-flush S t = record { step = step.Flush; moves = give_held t (held_by S.synchronization.nano t) ++ Nano (LeaveAll t) ∷ doom_noted t (noted_of S t); answer = None }
+flush S t = record {
+  step = step.Flush;
+  moves = give_held t (held_by S.synchronization.nano t) ++ Nano (LeaveAll t) ∷ doom_noted t (noted_of S t);
+  answer = None;
+}

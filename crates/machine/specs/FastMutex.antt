@@ -34,5 +34,6 @@ flock_step S t f (Some part) = flock_done t (want_of S.synchronization.nano t)
 -- it any more
 abbrev pub funlock_do : State → ObjNo → ℕ → Decision
 funlock_do S t f =
-    if is_holder S.synchronization.nano t f then answer t (Of Funlock Do) (Nano (Give t f) ∷ doom_where (critical_count S.synchronization.nano t == 0) t (noted_of S t)) (pos 0)
+    if is_holder S.synchronization.nano t f then answer t (Of Funlock Do)
+    (Nano (Give t f) ∷ doom_where (critical_count S.synchronization.nano t == 0) t (noted_of S t)) (pos 0)
     else refuse t (Of Funlock Do) General

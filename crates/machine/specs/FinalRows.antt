@@ -15,7 +15,13 @@ exit_of_row (Some row) = row.exit
 
 -- an object's row
 abbrev pub final_row : State → ℕ → ObjectRow → FinalRow
-final_row S n row = record { object = record { 0 = n }; kind = row.kind; name = row.name; count = count_of S (record { 0 = n }); exit = exit_of_row (thread_of S (record { 0 = n })) }
+final_row S n row = record {
+  object = record { 0 = n };
+  kind = row.kind;
+  name = row.name;
+  count = count_of S (record { 0 = n });
+  exit = exit_of_row (thread_of S (record { 0 = n }));
+}
 
 -- the rows of objects that aren't swept, from number n on
 abbrev pub rows_of : State → ℕ → List (Option ObjectRow) → List FinalRow

@@ -229,7 +229,10 @@ IsOfLive _ S = Unit {0}
 -- A move in the rows of logons fits the state: what it names is there, and a logon is made by a live thread, on one that is there and isn't
 -- cleaned, with a status that is awaited and that no other has.
 abbrev pub FitsLogons : LogonMove → State → Type 0
-FitsLogons (AddLogon t u s) S = (t.0 < length S.references.threads) × IsAwaited S.synchronization.requests u s × (times_logged S.synchronization.logons u s ≡ 0) × (times_sent S.serving.messages.outstanding u s ≡ 0) × IsLiveThread S.references.threads u × IsUnspent S t × (is_some (thread_of S t) ≡ true)
+FitsLogons (AddLogon t u s) S =
+    (t.0 < length S.references.threads) × IsAwaited S.synchronization.requests u s
+    × (times_logged S.synchronization.logons u s ≡ 0) × (times_sent S.serving.messages.outstanding u s ≡ 0)
+    × IsLiveThread S.references.threads u × IsUnspent S t × (is_some (thread_of S t) ≡ true)
 FitsLogons (RemoveLogon t u s) S = (t.0 < length S.references.threads) × (u.0 < length S.references.threads) × (s < 16)
 FitsLogons (DropLogons u) S = u.0 < length S.references.threads
 
@@ -310,7 +313,10 @@ OwnsClosing S u = (o : ObjNo) → 0 < times_owned S.serving.owned u o → is_clo
 
 -- a thread that may be cleaned: it has given up all, also what its process has where nobody else of that is left, and holds no fast mutex
 abbrev pub MayClean : State → ObjNo → Type 0
-MayClean S u = (held_by S.synchronization.nano u ≡ None) × ((row : ThreadRow) → thread_of S u ≡ Some row → IsSpent S.references.handles u.0 row) × ((row : ThreadRow) → thread_of S u ≡ Some row → process_handles S u row.process ≡ []) × OwnsNothing S u
+MayClean S u =
+    (held_by S.synchronization.nano u ≡ None)
+    × ((row : ThreadRow) → thread_of S u ≡ Some row → IsSpent S.references.handles u.0 row)
+    × ((row : ThreadRow) → thread_of S u ≡ Some row → process_handles S u row.process ≡ []) × OwnsNothing S u
 
 -- a thread that awaits nothing: no device has a request of it, and it made no logon
 pub record AwaitsNothing (S : State) (u : ObjNo) : Type 0 where

@@ -57,4 +57,6 @@ servers_hold owned sessions outstanding _ x = 0
 -- how many references a holder has to an object: those of the rows, and those that its owed closes stand for
 abbrev pub held_in : State → Holder → ObjNo → ℕ
 held_in S g x =
-    rows_hold S.references.handles S.references.threads S.synchronization.mutexes g x + total (total (owed_by g x)) S.references.owed + servers_hold S.serving.owned S.serving.servers.sessions S.serving.messages.outstanding g x
+    rows_hold S.references.handles S.references.threads S.synchronization.mutexes g x + total
+    (total (owed_by g x)) S.references.owed + servers_hold S.serving.owned S.serving.servers.sessions
+    S.serving.messages.outstanding g x

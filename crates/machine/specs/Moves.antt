@@ -213,11 +213,24 @@ moved t (Locks m) S = record S {
   references = record S.references { owed = owed_moved m S.references.owed };
 }
 moved t (Logons m) S = record S { synchronization = record S.synchronization { logons = logons_moved m S.synchronization.logons } }
-moved t (Death m) S = record S { references = record S.references { threads = with_row S.references.threads (death_thread m) (death_row m); owed = death_owed t m S.references.owed } }
+moved t (Death m) S = record S {
+  references = record S.references {
+    threads = with_row S.references.threads (death_thread m) (death_row m);
+    owed = death_owed t m S.references.owed;
+  };
+}
 moved t (Servers m) S = record S { serving = record S.serving { servers = servers_moved m S.serving.owned S.serving.servers } }
-moved t (Messages m) S = record S { serving = record S.serving { messages = messages_moved m S.serving.messages }; references = record S.references { owed = message_owed t m S.serving.messages S.references.owed } }
+moved t (Messages m) S = record S {
+  serving = record S.serving { messages = messages_moved m S.serving.messages };
+  references = record S.references { owed = message_owed t m S.serving.messages S.references.owed };
+}
 moved t (Fill p at length byte) S = record S { services = record S.services { memories = with_memory S.services.memories p (filled at length byte) } }
-moved t (Copies m) S = record S { services = record S.services { memories = memories_copied m S.references.threads S.serving.messages S.services.memories }; serving = record S.serving { messages = messages_copied m S.references.threads S.serving.messages } }
+moved t (Copies m) S = record S {
+  services = record S.services {
+    memories = memories_copied m S.references.threads S.serving.messages S.services.memories;
+  };
+  serving = record S.serving { messages = messages_copied m S.references.threads S.serving.messages };
+}
 moved t (Pay (Close h o)) S = record S {
   references = record S.references {
     objects = objects_closed (dies S o) o S.references.objects;

@@ -37,7 +37,9 @@ unless_server (Some server) other = nothing
 -- the second step. The look refuses a thread that holds a fast mutex, and so does this: nobody waits with one
 abbrev pub lock_do : State → ObjNo → Option ObjNo → Decision
 lock_do S t None = nothing
-lock_do S t (Some o) = unless_holding S t (Of word.Lock Do) (unless_server (server_at S.serving.servers o) (lock_by t o (lock_answer (owner_at S.synchronization.locks o) t)))
+lock_do S t (Some o) =
+    unless_holding S t (Of word.Lock Do) (unless_server (server_at S.serving.servers o)
+    (lock_by t o (lock_answer (owner_at S.synchronization.locks o) t)))
 
 -- first the look, then the lock, and after a wait the answer: the mutex is the thread's already
 abbrev pub lock_step : State → ObjNo → ThreadRow → ℕ → Option Part → Decision

@@ -70,10 +70,15 @@ kernel_names S o = kernel_holds (thread_of S o)
 -- the count of an object: the number of handles, links, temporary references, ownerships, messages' references, owed closes and of
 -- the kernel's own references that name it
 abbrev pub server_names : State → ObjNo → ℕ
-server_names S o = total (total (mutex_names o)) S.serving.owned + total (session_names o) S.serving.servers.sessions + total (message_names o) S.serving.messages.outstanding
+server_names S o =
+    total (total (mutex_names o)) S.serving.owned + total (session_names o) S.serving.servers.sessions + total
+    (message_names o) S.serving.messages.outstanding
 
 abbrev pub count_of : State → ObjNo → ℕ
-count_of S o = total (total (slot_names o)) S.references.handles + total (thread_names o) S.references.threads + kernel_names S o + total (total (owed_names o)) S.references.owed + total (total (mutex_names o)) S.synchronization.mutexes + server_names S o
+count_of S o =
+    total (total (slot_names o)) S.references.handles + total
+    (thread_names o) S.references.threads + kernel_names S o + total (total (owed_names o)) S.references.owed + total
+    (total (mutex_names o)) S.synchronization.mutexes + server_names S o
 
 -- how often effects add a reference to an object
 abbrev pub pluses : List Effect → ObjNo → ℕ

@@ -44,14 +44,16 @@ MayBeLinked threads r x = length threads ≤ x.0 → IsSession r x
 -- owner isn't live is closing; a thread that has given up all owns none; servers have no link, and no thread holds one as a mutex; a session is
 -- linked to a server, and has the number of no process and no thread; whoever is listed as linked to a server is; and what isn't made yet
 -- is no session, and none is linked to it.
-pub record AreServers (spent : ThreadRow → Bool) (objects : ℕ) (threads : List (Option ThreadRow)) (locks : LockRows) (owned : List (List ObjNo)) (r : ServerRows) : Type 0 where
+pub record AreServers (spent : ThreadRow → Bool) (objects : ℕ) (threads : List (Option ThreadRow)) (locks : LockRows)
+    (owned : List (List ObjNo)) (r : ServerRows) : Type 0 where
   pub servers_sized : length r.servers ≡ OBJECTS
   pub sessions_sized : length r.sessions ≡ OBJECTS
   pub linked_sized : length r.linked ≡ OBJECTS
   pub owned_sized : length owned ≡ length threads
   pub owners : (t o : ObjNo) → 0 < times_owned owned t o → IsServerOf r t o
   pub once : (t o : ObjNo) → times_owned owned t o ≤ 1
-  pub closing : (k : ℕ) (row : ThreadRow) (o : ObjNo) → slice_index_or threads k None ≡ Some row → is_live row.stage ≡ false → 0 < times_owned owned (record { 0 = k }) o → is_closing r o ≡ true
+  pub closing : (k : ℕ) (row : ThreadRow) (o : ObjNo) → slice_index_or threads k None ≡ Some row
+      → is_live row.stage ≡ false → 0 < times_owned owned (record { 0 = k }) o → is_closing r o ≡ true
   pub none : (k : ℕ) (row : ThreadRow) → slice_index_or threads k None ≡ Some row → spent row ≡ true → slice_index_or owned k [] ≡ []
   pub unlinked : (o : ObjNo) → IsServer r o → IsUnlinked threads r o
   pub unlocked : (o : ObjNo) → IsServer r o → owner_at locks o ≡ None
@@ -150,7 +152,8 @@ pub record AreMessages (IsAwaited : ObjNo → ℕ → Type 0) (threads : List (O
   pub sent : (u : ObjNo) (s : ℕ) → times_sent r.outstanding u s ≤ 1
   pub awaited : (u : ObjNo) (s : ℕ) → 0 < times_sent r.outstanding u s → IsAwaited u s
   pub called : (u : ObjNo) → times_called r.outstanding u ≤ 1
-  pub replies : (u : ObjNo) (row : ThreadRow) → 0 < times_called r.outstanding u → slice_index_or threads u.0 None ≡ Some row → row.stage ≡ Live → row.waiting ≡ waiting.Reply
+  pub replies : (u : ObjNo) (row : ThreadRow) → 0 < times_called r.outstanding u
+      → slice_index_or threads u.0 None ≡ Some row → row.stage ≡ Live → row.waiting ≡ waiting.Reply
   pub few : sessions_used threads servers r.outstanding ≤ sessions_there servers
   pub threads_few : total thread_bit threads ≤ THREADS
   pub numbered : numbers_used threads servers r ≤ 2 * THREAD_INSTRUCTIONS * THREADS

@@ -48,7 +48,8 @@ slots_left false slots = behind_first slots
 abbrev pub TakesSlots : Script → State → List ObjNo → List Slot → List Entry → Type 0
 TakesSlots script S qs slots [] = Unit {0}
 TakesSlots script S qs slots (e ∷ es) =
-    IsOfSlot (is_return e.step) S qs slots e.actor × TakesSlots script (next_by script S e) (arrived_by_entry script S e qs) (slots_left (is_return e.step) slots) es
+    IsOfSlot (is_return e.step) S qs slots e.actor
+    × TakesSlots script (next_by script S e) (arrived_by_entry script S e qs) (slots_left (is_return e.step) slots) es
 
 -- a part of a shared run of the script's schedule
 pub record IsSharedPart (script : Script) (history : List Entry) : Type 0 where

@@ -102,7 +102,8 @@ task_of_row script S t (Some row) =
     return_or (is_returning row.part) (instruction script row)
     (pay_or (first_owed S t)
     (by_stage row.stage (holdings S t row)
-    (live_task row.role (next_call S.synchronization.deferred row.role) (work_or (held_servers S t) (step_or_end (is_protected S.synchronization.nano t) (instruction script row))))))
+    (live_task row.role (next_call S.synchronization.deferred row.role)
+    (work_or (held_servers S t) (step_or_end (is_protected S.synchronization.nano t) (instruction script row))))))
 
 -- what a thread does next, None where there is nothing
 abbrev pub task_of : Script → State → ObjNo → Option Task

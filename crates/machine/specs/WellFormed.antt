@@ -294,7 +294,8 @@ pub record AreReferenceRows (script : Script) (servers : ServerRows) (accepted :
   pub spent : AreSpent r.objects r.handles r.threads
 
 -- what threads synchronize by, for so many threads and so many objects
-pub record AreSynchronizationRows (script : Script) (count objects : ℕ) (threads : List (Option ThreadRow)) (owed : List (List Owed)) (r : Synchronization) : Type 0 where
+pub record AreSynchronizationRows (script : Script) (count objects : ℕ) (threads : List (Option ThreadRow))
+    (owed : List (List Owed)) (r : Synchronization) : Type 0 where
   pub nano : AreSynchronized script threads r.nano
   pub deferred : AreCalls script r.deferred
   pub requests : AreRequests count r.requests
@@ -314,8 +315,10 @@ pub record AreServiceRows (threads : List (Option ThreadRow)) (r : Services) : T
 -- the rows of every state, also of one in the middle of an action
 pub record AreRows (script : Script) (S : State) : Type 0 where
   pub references : AreReferenceRows script S.serving.servers S.serving.messages.accepted S.references
-  pub synchronization : AreSynchronizationRows script (length S.references.threads) (length S.references.objects) S.references.threads S.references.owed S.synchronization
-  pub serving : AreServingRows (length S.references.objects) S.references.threads S.synchronization.locks (IsUntold S.synchronization.requests S.synchronization.logons) S.serving
+  pub synchronization : AreSynchronizationRows script (length S.references.threads)
+      (length S.references.objects) S.references.threads S.references.owed S.synchronization
+  pub serving : AreServingRows (length S.references.objects) S.references.threads S.synchronization.locks
+      (IsUntold S.synchronization.requests S.synchronization.logons) S.serving
   pub services : AreServiceRows S.references.threads S.services
   pub lives : AreLives S
 

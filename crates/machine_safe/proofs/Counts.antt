@@ -24,12 +24,14 @@ use Rattle.machine_laws.proofs.Reached.Modes.{shared-after}
 use Rattle.machine_safe.proofs.Runs.{IsSoundRun, run-front, run-rest, run-closed}
 use Rattle.machine_safe.proofs.SafeHistories.{legal_run, count_after-is}
 
-run-made : (script : Script) (S : State) (es : List Entry) → IsSoundRun script S es → length S.references.objects ≤ length (after_from script S es).references.objects
+run-made : (script : Script) (S : State) (es : List Entry) → IsSoundRun script S es
+    → length S.references.objects ≤ length (after_from script S es).references.objects
 run-made script S [] h = omega arith
 run-made script S (e ∷ es) h = let a = h.0.lives.made in let r = run-made script (next_by script S e) es h.1 in omega arith
 
 -- an object that was found was made
-run-found : (script : Script) (S : State) (es : List Entry) (o : ObjNo) → IsSoundRun script S es → 0 < finds (effects_of es) o → o.0 < length (after_from script S es).references.objects
+run-found : (script : Script) (S : State) (es : List Entry) (o : ObjNo) → IsSoundRun script S es
+    → 0 < finds (effects_of es) o → o.0 < length (after_from script S es).references.objects
 run-found script S [] o h some = absurd (omega arith)
 run-found script S (e ∷ es) o h some = elim (cases_lt 0 (finds e.effects o)) as (λ _. o.0 < length (after_from script S (e ∷ es)).references.objects) [
   | inl now ↦
@@ -48,7 +50,9 @@ finds_to_open_le (e ∷ es) later o =
     let both = finds-append e.effects (effects_of es) o in omega arith
 
 -- an object that was found and has no reference is gone, so no later return opens it
-none_to_open : (script : Script) (first later : List Entry) (o : ObjNo) → IsSoundRun script (boot script) first → IsSoundRun script (after script first) later → AreLives (after script first) → outs_of (after script first) o ≡ 0 → count_of (after script first) o ≡ 0 → finds_to_open first later o ≡ 0
+none_to_open : (script : Script) (first later : List Entry) (o : ObjNo) → IsSoundRun script (boot script) first
+    → IsSoundRun script (after script first) later → AreLives (after script first) → outs_of (after script first) o ≡ 0
+    → count_of (after script first) o ≡ 0 → finds_to_open first later o ≡ 0
 none_to_open script first later o front rest lives out zero = elim (cases_lt 0 (finds_to_open first later o)) as (λ _. finds_to_open first later o ≡ 0) [
   | inr none ↦ omega arith
   | inl some ↦
@@ -64,16 +68,20 @@ none_to_open script first later o front rest lives out zero = elim (cases_lt 0 (
 ]
 
 -- In a legal history of a well-formed script the finds that open an object later never turn a count of 0 into another number.
-pub count_after-zero : (script : Script) (first later : List Entry) (o : ObjNo) → IsWellFormed script → IsLegal script (first ++ later) → count_of (after script first) o ≡ 0 → count_after script first later o ≡ 0
+pub count_after-zero : (script : Script) (first later : List Entry) (o : ObjNo) → IsWellFormed script
+    → IsLegal script (first ++ later) → count_of (after script first) o ≡ 0 → count_after script first later o ≡ 0
 count_after-zero script first later o valid legal zero =
     let run = legal_run false script (first ++ later) valid legal in
     let front = run-front script (boot script) first later run in
     let rest = run-rest script (boot script) first later run in
-    let out : outs_of (after script first) o ≡ 0 = ap (λ (shared : Bool). if shared then total (seeks o) (after script first).references.threads else 0) (shared-after script (boot script) first) in
+    let out : outs_of (after script first) o
+    ≡ 0 = ap (λ (shared : Bool). if shared then total (seeks o) (after script first).references.threads else 0)
+    (shared-after script (boot script) first) in
     let none = none_to_open script first later o front rest (well_formed-after false script first valid).rows.lives out zero in
     let is = count_after-is false script first later o front in omega arith
 
-pub count_zero-after : (script : Script) (first later : List Entry) (o : ObjNo) → IsWellFormed script → IsLegal script (first ++ later) → count_after script first later o ≡ 0 → count_of (after script first) o ≡ 0
+pub count_zero-after : (script : Script) (first later : List Entry) (o : ObjNo) → IsWellFormed script
+    → IsLegal script (first ++ later) → count_after script first later o ≡ 0 → count_of (after script first) o ≡ 0
 count_zero-after script first later o valid legal zero =
     let front = run-front script (boot script) first later (legal_run false script (first ++ later) valid legal) in
     let is = count_after-is false script first later o front in omega arith

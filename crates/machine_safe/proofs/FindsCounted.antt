@@ -48,24 +48,30 @@ seek-told (move.Pay (Close h o)) = refl
 seek-told (move.Pay (Sweep o)) = refl
 seek-told _ = refl
 
-next-finds : (script : Script) (S : State) (actor : Actor) → times_found (transition script S actor).outcome.effects ≡ total finding_bit (moves_of script S actor)
+next-finds : (script : Script) (S : State) (actor : Actor)
+    → times_found (transition script S actor).outcome.effects ≡ total finding_bit (moves_of script S actor)
 next-finds script S actor = next-is seek_bit of-seek script S actor ∙ total-same (told_by seek_bit) finding_bit seek-told (moves_of script S actor)
 
 -- as many threads are out as found something and haven't come back, also after one more entry
-away-next : (script : Script) (S : State) (actor : Actor) → IsShaped script → AreRows script S → away (next script S actor) + return_bit (transition script S actor).outcome.step ≡ away S + times_found (transition script S actor).outcome.effects
+away-next : (script : Script) (S : State) (actor : Actor) → IsShaped script → AreRows script S
+    → away (next script S actor) + return_bit (transition script S actor).outcome.step
+    ≡ away S + times_found (transition script S actor).outcome.effects
 away-next script S actor shaped rows =
     let moves = out-next script S actor shaped rows in
     let comes = comes-next script S actor shaped rows in
     let finds = next-finds script S actor in omega arith
 
-away-after : (script : Script) (S : State) (place : ℕ) (es : List Entry) → IsShaped script → AreRows script S → IsLegalFrom script S place es → away (after_from script S es) + returns_in es ≡ away S + finds_in es
+away-after : (script : Script) (S : State) (place : ℕ) (es : List Entry) → IsShaped script → AreRows script S
+    → IsLegalFrom script S place es → away (after_from script S es) + returns_in es ≡ away S + finds_in es
 away-after script S place [] shaped rows legal = refl
 away-after script S place (e ∷ es) shaped rows legal =
     let T = choosing e S in
     let chosen = rows-keeping script S (S.mode.shared && is_deathless e.effects) rows in
     let step : return_bit e.step ≡ return_bit (transition script T e.actor).outcome.step = ap (λ (x : Entry). return_bit x.step) legal.0.told in
     let effects : times_found e.effects ≡ times_found (transition script T e.actor).outcome.effects = ap (λ (x : Entry). times_found x.effects) legal.0.told in
-    let here : away (next_by script S e) + return_bit (transition script T e.actor).outcome.step ≡ away S + times_found (transition script T e.actor).outcome.effects = away-next script T e.actor shaped chosen in
+    let here : away (next_by script S e) + return_bit (transition script T e.actor).outcome.step
+    ≡ away S + times_found (transition script T e.actor).outcome.effects =
+    away-next script T e.actor shaped chosen in
     let rest = away-after script (next_by script S e) (place + 1) es shaped (sound-next script T e.actor shaped chosen).rows legal.1 in omega arith
 
 -- nobody is out where so many are 0, and the other way round
@@ -94,7 +100,10 @@ total-none [] none = refl
 total-none (row ∷ threads) none = let here : returning_bit row ≡ 0 = none 0 in let rest = total-none threads (λ i. none (suc i)) in omega arith
 
 away-none : (T : State) → T.mode.shared ≡ true → ((t : ObjNo) → is_out T t ≡ false) → away T ≡ 0
-away-none T shared none = total-none T.references.threads (λ i. if_not (is_returning (part_of (thread_of T (record { 0 = i })))) 1 (shared-out T.mode.shared (is_returning (part_of (thread_of T (record { 0 = i })))) shared (none (record { 0 = i }))))
+away-none T shared none =
+    total-none T.references.threads (λ i. if_not (is_returning (part_of (thread_of T (record { 0 = i })))) 1
+    (shared-out T.mode.shared (is_returning (part_of (thread_of T (record { 0 = i })))) shared
+    (none (record { 0 = i }))))
 
 pub finds-counted : (script : Script) (history : List Entry) → IsWellFormedScript script → IsShared script history → AreFindsCounted script history
 finds-counted script history valid legal =
@@ -102,7 +111,9 @@ finds-counted script history valid legal =
     let S = boot_in true script in
     let T = after_in true script history in
     let first : away S ≡ 0 = out-boot true script shaped in
-    let count : away T + returns_in history ≡ finds_in history = (let all = away-after script S 1 history shaped (well_formed-boot true script valid).rows legal in omega arith) in
+    let count : away T + returns_in history
+    ≡ finds_in history = (let all = away-after script S 1 history shaped
+    (well_formed-boot true script valid).rows legal in omega arith) in
     record {
       counted = count;
       back = λ same t. none-away T t (omega arith);

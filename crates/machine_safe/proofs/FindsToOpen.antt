@@ -21,7 +21,9 @@ pluses_by_le [] g x = omega arith
 pluses_by_le (Plus h o ∷ rest) g x = let a = if_le (is_holder h g) (same o x) in let r = pluses_by_le rest g x in omega arith
 pluses_by_le (_ ∷ rest) g x = pluses_by_le rest g x
 
-opens_adds_step : (b : Bool) (t o : ObjNo) (e : Entry) (es : List Entry) → opens t o (if b then Some e else first_by t es) ≡ true → (opens t o (first_by t es) ≡ true → 0 < pluses (effects_of es) o) → 0 < pluses (e.effects ++ effects_of es) o
+opens_adds_step : (b : Bool) (t o : ObjNo) (e : Entry) (es : List Entry)
+    → opens t o (if b then Some e else first_by t es) ≡ true
+    → (opens t o (first_by t es) ≡ true → 0 < pluses (effects_of es) o) → 0 < pluses (e.effects ++ effects_of es) o
 opens_adds_step true t o e es h r =
     let a = pluses-append e.effects (effects_of es) o in
     let b = pluses_by_le e.effects (Temp t) o in

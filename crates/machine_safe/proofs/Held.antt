@@ -28,7 +28,8 @@ use Rattle.machine_safe.proofs.Runs.{IsSoundRun}
 use Rattle.machine_safe.proofs.SafeHistories.{legal_run, run-holders}
 use Rattle.move_laws.proofs.Numbers.CountSmall.{holds_le}
 
-run-held : (script : Script) (S : State) (es : List Entry) (g : Holder) (x : ObjNo) → IsSoundRun script S es → held_after_all (held_in S) (effects_of es) g x ≡ held_in (after_from script S es) g x
+run-held : (script : Script) (S : State) (es : List Entry) (g : Holder) (x : ObjNo) → IsSoundRun script S es
+    → held_after_all (held_in S) (effects_of es) g x ≡ held_in (after_from script S es) g x
 run-held script S [] g x h = refl
 run-held script S (e ∷ es) g x h =
     let T = next_by script S e in
@@ -38,7 +39,9 @@ run-held script S (e ∷ es) g x h =
 
 -- after each legal history a holder has the references that it had at boot, with those that its effects add and without
 -- those that they take away
-pub held_as_told : (shared : Bool) (script : Script) (history : List Entry) → IsWellFormed script → IsLegalIn shared script history → (g : Holder) (x : ObjNo) → held_in (after_in shared script history) g x ≡ held_after_all (held_at_boot script) (effects_of history) g x
+pub held_as_told : (shared : Bool) (script : Script) (history : List Entry) → IsWellFormed script
+    → IsLegalIn shared script history → (g : Holder) (x : ObjNo)
+    → held_in (after_in shared script history) g x ≡ held_after_all (held_at_boot script) (effects_of history) g x
 held_as_told shared script history valid legal g x =
     sym (run-held script (boot_in shared script) history g x (legal_run shared script history valid legal))
     ∙ after_all-same (held_in (boot_in shared script)) (held_at_boot script) (effects_of history) (held-boot script (formed_is_shaped script valid)) g x
@@ -61,7 +64,8 @@ is_holder_is (Message m) (Message n) e = ap Message (same_message m n (eqb-true 
 is_holder_is Kernel Kernel e = refl
 is_holder_is _ _ e = cc
 
-added_once_by : (held : Holder → ObjNo → ℕ) (h : Holder) (o : ObjNo) (g : Holder) (x : ObjNo) (b : Bool) → is_holder h g ≡ b → held h o ≡ 0 → held g x ≤ 1 → held g x + (if b then same o x else 0) ≤ 1
+added_once_by : (held : Holder → ObjNo → ℕ) (h : Holder) (o : ObjNo) (g : Holder) (x : ObjNo) (b : Bool)
+    → is_holder h g ≡ b → held h o ≡ 0 → held g x ≤ 1 → held g x + (if b then same o x else 0) ≤ 1
 added_once_by held h o g x false e none few = omega arith
 added_once_by held h o g x true e none few = elim (cases_lt 0 (same o x)) as (λ _. held g x + same o x ≤ 1) [
   | inl some ↦
@@ -70,12 +74,14 @@ added_once_by held h o g x true e none few = elim (cases_lt 0 (same o x)) as (λ
   | inr none_there ↦ omega arith
 ]
 
-once_one : (held : Holder → ObjNo → ℕ) (e : Effect) → FitsHolders held e → ((g : Holder) (x : ObjNo) → held g x ≤ 1) → (g : Holder) (x : ObjNo) → held_after held e g x ≤ 1
+once_one : (held : Holder → ObjNo → ℕ) (e : Effect) → FitsHolders held e → ((g : Holder) (x : ObjNo) → held g x ≤ 1)
+    → (g : Holder) (x : ObjNo) → held_after held e g x ≤ 1
 once_one held (Plus h o) fits few g x = added_once_by held h o g x (is_holder h g) refl fits (few g x)
 once_one held (Minus h o) fits few g x = let a = few g x in omega arith
 once_one held _ fits few g x = few g x
 
-once_all : (held : Holder → ObjNo → ℕ) (es : List Effect) → EachFitsHolders held es → ((g : Holder) (x : ObjNo) → held g x ≤ 1) → (g : Holder) (x : ObjNo) → held_after_all held es g x ≤ 1
+once_all : (held : Holder → ObjNo → ℕ) (es : List Effect) → EachFitsHolders held es
+    → ((g : Holder) (x : ObjNo) → held g x ≤ 1) → (g : Holder) (x : ObjNo) → held_after_all held es g x ≤ 1
 once_all held [] fits few g x = few g x
 once_all held (e ∷ es) fits few g x = once_all (held_after held e) es fits.1 (once_one held e fits.0 few) g x
 
@@ -93,7 +99,11 @@ once_at_boot script Kernel x = holds_le (thread_of (boot script) x)
 once_at_boot script _ x = omega arith
 
 -- a holder has one reference to an object at most
-pub held_once : (shared : Bool) (script : Script) (history : List Entry) → IsWellFormed script → IsLegalIn shared script history → (g : Holder) (x : ObjNo) → held_in (after_in shared script history) g x ≤ 1
+pub held_once : (shared : Bool) (script : Script) (history : List Entry) → IsWellFormed script
+    → IsLegalIn shared script history → (g : Holder) (x : ObjNo) → held_in (after_in shared script history) g x ≤ 1
 held_once shared script history valid legal g x =
     let told = held_as_told shared script history valid legal g x in
-    let few = once_all (held_at_boot script) (effects_of history) (run-holders shared script history (formed_is_shaped script valid) (legal_run shared script history valid legal)) (once_at_boot script) g x in omega arith
+    let few = once_all (held_at_boot script) (effects_of history)
+    (run-holders shared script history (formed_is_shaped script valid) (legal_run shared script history valid legal))
+    (once_at_boot script) g x in
+    omega arith

@@ -10,7 +10,8 @@ use Rattle.machine_safe.proofs.Deaths.Dooms.{doom-ends}
 use Rattle.machine_safe.proofs.Deaths.InOrder.{dies-in-order}
 use Rattle.machine_safe.proofs.Deaths.Leaves.{clean-leaves}
 
-pub legal_deaths : (shared : Bool) (script : Script) (history : List Entry) → IsWellFormed script → IsLegalIn shared script history → IsSafeDeaths shared script history
+pub legal_deaths : (shared : Bool) (script : Script) (history : List Entry) → IsWellFormed script
+    → IsLegalIn shared script history → IsSafeDeaths shared script history
 legal_deaths shared script history valid legal = record {
   order = λ t. dies-in-order shared script history t valid legal;
   doom = λ t. doom-ends shared script history t valid legal;

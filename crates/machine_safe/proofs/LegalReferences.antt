@@ -28,14 +28,22 @@ use Rattle.machine_safe.proofs.Finders.Runs.{HasFound, Stands, out-idle, out-sti
 use Rattle.machine_safe.proofs.Runs.{legal_runs, run-front, run-gone}
 use Rattle.machine_safe.proofs.SafeHistories.{IsSplit, count_after-is, dies_at_zero, dies_unless_out, legal_run, run-safe, split}
 
-pub stands-boot : (shared : Bool) (script : Script) (history : List Entry) → IsWellFormed script → IsLegalIn shared script history → Stands script (boot_in shared script) 1 history
-stands-boot shared script history valid legal = record { rows = rows-boot shared script valid; at = at-boot shared script (formed_is_shaped script valid); legal = legal }
+pub stands-boot : (shared : Bool) (script : Script) (history : List Entry) → IsWellFormed script
+    → IsLegalIn shared script history → Stands script (boot_in shared script) 1 history
+stands-boot shared script history valid legal = record {
+  rows = rows-boot shared script valid;
+  at = at-boot shared script (formed_is_shaped script valid);
+  legal = legal;
+}
 
 -- who found an object before its death opens nothing: he is out on it until he comes back, and misses it then
-missed : (shared : Bool) (script : Script) (history : List Entry) → IsWellFormed script → IsLegalIn shared script history → (o : ObjNo) → MissesTheDead history o
+missed : (shared : Bool) (script : Script) (history : List Entry) → IsWellFormed script
+    → IsLegalIn shared script history → (o : ObjNo) → MissesTheDead history o
 missed shared script history valid legal o before find between back later t is by_find found none by_back died =
     let shaped = formed_is_shaped script valid in
-    let all : Stands script (boot_in shared script) 1 (before ++ ((find ∷ between) ++ (back ∷ later))) = subst (Stands script (boot_in shared script) 1) (is ∙ append_assoc before (find ∷ between) (back ∷ later)) (stands-boot shared script history valid legal) in
+    let all : Stands script (boot_in shared script) 1 (before ++ ((find ∷ between) ++ (back ∷ later))) =
+    subst (Stands script (boot_in shared script) 1) (is ∙ append_assoc before (find ∷ between) (back ∷ later))
+    (stands-boot shared script history valid legal) in
     let first = stands-rest script shaped (boot_in shared script) 1 before (find ∷ between ++ back ∷ later) all in
     let S = after_in shared script before in
     let T = next_by script S find in
@@ -61,14 +69,19 @@ some-part f (x ∷ xs) d some = elim (cases_lt 0 (f x)) as (λ _. (k : ℕ) × (
 ]
 
 -- a find whose thread opens the object later is counted
-counted-find : (first : List Entry) (w : ObjNo) (between later : List Entry) (o : ObjNo) (find : Entry) → find.actor ≡ Thread w → 0 < finds find.effects o → first_by w between ≡ None → (before : List Entry) → finds_to_open (before ++ find ∷ between) later o ≡ 0 → opens w o (first_by w later) ≡ false
+counted-find : (first : List Entry) (w : ObjNo) (between later : List Entry) (o : ObjNo) (find : Entry)
+    → find.actor ≡ Thread w → 0 < finds find.effects o → first_by w between ≡ None → (before : List Entry)
+    → finds_to_open (before ++ find ∷ between) later o ≡ 0 → opens w o (first_by w later) ≡ false
 counted-find first w between later o find by found none [] zero = shut (opens w o (first_by w later)) refl
   where
     shut : (b : Bool) → opens w o (first_by w later) ≡ b → b ≡ false
     shut false e = refl
     shut true e =
-        let later_is : opens_later find.actor between later o ≡ (is_none (first_by w between) && opens w o (first_by w later)) = ap (λ (a : Actor). opens_later a between later o) by in
-        let so : (is_none (first_by w between) && opens w o (first_by w later)) ≡ true = ap (λ (x : Option Entry). is_none x && opens w o (first_by w later)) none ∙ e in
+        let later_is : opens_later find.actor between later o
+        ≡ (is_none (first_by w between) && opens w o (first_by w later)) =
+        ap (λ (a : Actor). opens_later a between later o) by in
+        let so : (is_none (first_by w between) && opens w o (first_by w later)) ≡ true =
+        ap (λ (x : Option Entry). is_none x && opens w o (first_by w later)) none ∙ e in
         let counted = if_is (opens_later find.actor between later o) (finds find.effects o) (later_is ∙ so) in absurd (omega arith)
 counted-find first w between later o find by found none (x ∷ before) zero = counted-find first w between later o find by found none before (omega arith)
 
@@ -77,12 +90,16 @@ first-both : (w : ObjNo) (xs ys : List Entry) → first_by w xs ≡ None → fir
 first-both w [] ys none more = more
 first-both w (x ∷ xs) ys none more = by (is_by w x.actor) none (first-both w xs ys)
   where
-    by : (b : Bool) → (if b then Some x else first_by w xs) ≡ None → (first_by w xs ≡ None → first_by w ys ≡ None → first_by w (xs ++ ys) ≡ None) → (if b then Some x else first_by w (xs ++ ys)) ≡ None
+    by : (b : Bool) → (if b then Some x else first_by w xs) ≡ None
+        → (first_by w xs ≡ None → first_by w ys ≡ None → first_by w (xs ++ ys) ≡ None)
+        → (if b then Some x else first_by w (xs ++ ys)) ≡ None
     by true none rest = absurd (cc)
     by false none rest = rest none more
 
 -- where callers share the kernel: the object dies, or somebody is left out on it
-module _ (script : Script) (history : List Entry) (valid : IsWellFormed script) (legal : IsLegalIn true script history) (o : ObjNo) (before : List Entry) (e : Entry) (later : List Entry) (is : history ≡ before ++ e ∷ later) (taken : 0 < minuses e.effects o) (zero : count_after script (before ++ e ∷ []) later o ≡ 0) where
+module _ (script : Script) (history : List Entry) (valid : IsWellFormed script) (legal : IsLegalIn true script history)
+    (o : ObjNo) (before : List Entry) (e : Entry) (later : List Entry) (is : history ≡ before ++ e ∷ later)
+    (taken : 0 < minuses e.effects o) (zero : count_after script (before ++ e ∷ []) later o ≡ 0) where
   abbrev first : List Entry
   first = before ++ e ∷ []
 
@@ -111,7 +128,8 @@ module _ (script : Script) (history : List Entry) (valid : IsWellFormed script) 
       let moved = lives.counts o in
       let deads = lives.deads o in
       let made = lives.made in
-      let rows = (stands-rest script shaped (boot_in true script) 1 before (e ∷ later) (subst (Stands script (boot_in true script) 1) is (stands-boot true script history valid legal))).1.rows in
+      let rows = (stands-rest script shaped (boot_in true script) 1 before (e ∷ later)
+      (subst (Stands script (boot_in true script) 1) is (stands-boot true script history valid legal))).1.rows in
       elim (cases_lt 0 (count_of S o)) as (λ _. (gone T.references.objects o ≡ 0) × (o.0 < length T.references.objects)) [
         | inl some ↦ let alive = alive_not_gone S.references.objects o (rows.lives.alive o some) in (omega arith, omega arith)
         | inr unused ↦ let opened = lives.opens o (omega arith) in (omega arith, opened.1)
@@ -125,7 +143,10 @@ module _ (script : Script) (history : List Entry) (valid : IsWellFormed script) 
 
   -- none of those who are out opens it
   shut : (w : ObjNo) → 0 < seeks o (thread_of T w) → opens w o (first_by w later) ≡ false
-  shut w out = let f = has_found w out in counted-find first w f.between later o f.find f.actor f.found f.gone f.before (subst (λ (l : List Entry). finds_to_open l later o ≡ 0) f.stands counts.1)
+  shut w out =
+      let f = has_found w out in
+      counted-find first w f.between later o f.find f.actor f.found f.gone f.before
+      (subst (λ (l : List Entry). finds_to_open l later o ≡ 0) f.stands counts.1)
 
   left_out : deaths e.effects o ≡ 0 → (w : ObjNo) → 0 < seeks o (thread_of T w) → IsExcused true first later o
   left_out none w out =
@@ -133,7 +154,16 @@ module _ (script : Script) (history : List Entry) (valid : IsWellFormed script) 
       let last = stands-rest script shaped (boot_in true script) 1 first later all in
       let alive = living none in
       let idle = out-idle script shaped T last.0 later last.1 o alive.1 alive.0 counts.0 shut w out in
-      record { before = f.before; find = f.find; between = f.between; stands = f.stands; thread = w; actor = f.actor; found = f.found; gone = first-both w f.between later f.gone idle }
+      record {
+        before = f.before;
+        find = f.find;
+        between = f.between;
+        stands = f.stands;
+        thread = w;
+        actor = f.actor;
+        found = f.found;
+        gone = first-both w f.between later f.gone idle;
+      }
 
   excused : (0 < deaths e.effects o) ⊎ IsExcused true first later o
   excused = elim (cases_lt 0 (deaths e.effects o)) as (λ _. (0 < deaths e.effects o) ⊎ IsExcused true first later o) [
@@ -150,10 +180,13 @@ module _ (script : Script) (history : List Entry) (valid : IsWellFormed script) 
       total_of true some = some
       total_of false some = absurd (omega arith)
 
-always : (shared : Bool) (script : Script) (history : List Entry) → IsWellFormed script → IsLegalIn shared script history → (o : ObjNo) → DiesAtZero shared script history o
+always : (shared : Bool) (script : Script) (history : List Entry) → IsWellFormed script
+    → IsLegalIn shared script history → (o : ObjNo) → DiesAtZero shared script history o
 always false script history valid legal o = dies_at_zero script history valid (legal_run false script history valid legal) o
 always true script history valid legal o = λ before e later is taken zero. excused script history valid legal o before e later is taken zero
 
-pub legal_references : (shared : Bool) (script : Script) (history : List Entry) → IsWellFormed script → IsLegalIn shared script history → IsSafeReferences shared script history
+pub legal_references : (shared : Bool) (script : Script) (history : List Entry) → IsWellFormed script
+    → IsLegalIn shared script history → IsSafeReferences shared script history
 legal_references shared script history valid legal =
-    run-safe shared script history (formed_is_shaped script valid) (legal_run shared script history valid legal) (always shared script history valid legal) (missed shared script history valid legal)
+    run-safe shared script history (formed_is_shaped script valid) (legal_run shared script history valid legal)
+    (always shared script history valid legal) (missed shared script history valid legal)

@@ -11,7 +11,8 @@ use Rattle.machine_safe.proofs.LegalReferences.{legal_references}
 use Rattle.machine_safe.proofs.LegalWaits.{legal_waits}
 use Rattle.machine_safe.proofs.LegalWeights.{legal_weights}
 
-pub legal_safety : (shared : Bool) (script : Script) (history : List Entry) → IsWellFormed script → IsLegalIn shared script history → IsSafeIn shared script history
+pub legal_safety : (shared : Bool) (script : Script) (history : List Entry) → IsWellFormed script
+    → IsLegalIn shared script history → IsSafeIn shared script history
 legal_safety shared script history valid legal = record {
   references = legal_references shared script history valid legal;
   deaths = legal_deaths shared script history valid legal;

@@ -61,7 +61,9 @@ unmade-next script before S book = by (server_at S.serving.servers (next_object 
 pub book-keeping : (script : Script) (before : List Entry) (S : State) (keep : Bool) → Book script before S → Book script before (keeping keep S)
 book-keeping script before S keep h = record {
   served = record {
-    rows = λ o row is. let row_is = h.served.rows o row is in record { made = row_is.made; owner = row_is.owner; closing = row_is.closing; owned = row_is.owned };
+    rows =
+        λ o row is. let row_is = h.served.rows o row is in
+        record { made = row_is.made; owner = row_is.owner; closing = row_is.closing; owned = row_is.owned };
     links = h.served.links;
     ended = h.served.ended;
     over = h.served.over;
@@ -109,18 +111,27 @@ book-after shared script before later valid legal =
     by : (xs ys : List Entry) → before ≡ xs ++ ys → BookAt shared script xs → BookAt shared script before
     by xs [] e h = subst (BookAt shared script) (sym (e ∙ append-nil xs)) h
     by xs (y ∷ ys) e h =
-        let cuts = cut shared script (before ++ later) xs y (ys ++ later) valid legal (ap (λ (l : List Entry). l ++ later) e ∙ append_assoc xs (y ∷ ys) later) in
+        let cuts = cut shared script (before ++ later) xs y (ys ++ later) valid legal
+        (ap (λ (l : List Entry). l ++ later) e ∙ append_assoc xs (y ∷ ys) later) in
         let S = after_in shared script xs in
         let shaped = formed_is_shaped script valid in
         let keep = S.mode.shared && is_deathless y.effects in
         let handles = handles-keeping script S keep h.2 in
-        let turn = turn-entry script xs (choosing y S) cuts.place shaped cuts.rows_done (book-keeping script xs S keep h.0) h.1 handles (fated shared script xs valid cuts.legal_before) y cuts.done in
+        let turn = turn-entry script xs (choosing y S) cuts.place shaped cuts.rows_done
+        (book-keeping script xs S keep h.0) h.1 handles (fated shared script xs valid cuts.legal_before) y cuts.done in
         let looked = entry-looked script xs (choosing y S) cuts.place shaped cuts.rows_done h.1 y cuts.done in
         let steady = steady-keeping script S keep h.3 in
-        let kept = kept-next script (choosing y S) shaped cuts.rows_done (steady.own, steady.kinds) (steady-properly script (choosing y S) shaped cuts.rows_done steady) handles (unmade-next script xs S h.0) y.actor in
+        let kept = kept-next script (choosing y S) shaped cuts.rows_done (steady.own, steady.kinds)
+        (steady-properly script (choosing y S) shaped cuts.rows_done steady) handles
+        (unmade-next script xs S h.0) y.actor in
         let steady_next = steady-next script (choosing y S) shaped cuts.rows_done steady y.actor in
         let same = sym (after_from-push script (boot_in shared script) xs y) in
-        by (xs ++ y ∷ []) ys (e ∙ sym (append_assoc xs (y ∷ []) ys)) (subst (Book script (xs ++ y ∷ [])) same turn.book, subst (Looked script (xs ++ y ∷ [])) same looked, subst (KeepHandles script) same kept, subst (IsSteady script) same steady_next)
+        by (xs ++ y ∷ []) ys (e ∙ sym (append_assoc xs (y ∷ []) ys)) (
+          subst (Book script (xs ++ y ∷ [])) same turn.book,
+          subst (Looked script (xs ++ y ∷ [])) same looked,
+          subst (KeepHandles script) same kept,
+          subst (IsSteady script) same steady_next,
+        )
 
 -- each entry is lawful
 lawful : (shared : Bool) (script : Script) (history before : List Entry) (e : Entry) (later : List Entry)
@@ -131,7 +142,9 @@ lawful shared script history before e later valid legal is =
     let book = book-after shared script before (e ∷ later) valid (subst (IsLegalIn shared script) is legal) in
     let S = after_in shared script before in
     let keep = S.mode.shared && is_deathless e.effects in
-    (turn-entry script before (choosing e S) c.place shaped c.rows_done (book-keeping script before S keep book.0) book.1 (handles-keeping script S keep book.2) (fated shared script before valid c.legal_before) e c.done).lawful
+    (turn-entry script before (choosing e S) c.place shaped c.rows_done
+    (book-keeping script before S keep book.0) book.1 (handles-keeping script S keep book.2)
+    (fated shared script before valid c.legal_before) e c.done).lawful
 
 pub legal_busy : (shared : Bool) (script : Script) (history : List Entry) → IsWellFormed script → IsLegalIn shared script history → IsSafeBusy script history
 legal_busy shared script history valid legal = record {
@@ -147,7 +160,9 @@ legal_messages shared script history valid legal = record {
 }
 
 -- a thread that is cleaned made servers that ended, and nothing is left of these
-module _ (shared : Bool) (script : Script) (history before : List Entry) (e : Entry) (later : List Entry) (t v : ObjNo) (valid : IsWellFormed script) (legal : IsLegalIn shared script history) (is : StandsAt history before e later) (cleaned : 0 < cleanings (e ∷ []) t) (owns : owner_in before v ≡ Some t) where
+module _ (shared : Bool) (script : Script) (history before : List Entry) (e : Entry) (later : List Entry) (t v : ObjNo)
+    (valid : IsWellFormed script) (legal : IsLegalIn shared script history) (is : StandsAt history before e later)
+    (cleaned : 0 < cleanings (e ∷ []) t) (owns : owner_in before v ≡ Some t) where
   book : Book script before (after_in shared script before)
   book = (book-after shared script before (e ∷ later) valid (subst (IsLegalIn shared script) is legal)).0
 
@@ -155,7 +170,8 @@ module _ (shared : Bool) (script : Script) (history before : List Entry) (e : En
   server-ended = elim (book.served.made t v owns) as (λ _. 0 < ends (effects_of before) v) [
     | inl owned ↦
         let c = cut shared script history before e later valid legal is in
-        let empty = empty-cleaning script (choosing e (after_in shared script before)) e t c.rows_done (cleans-here shared script before e later t (formed_is_shaped script valid) c cleaned) in
+        let empty = empty-cleaning script (choosing e (after_in shared script before)) e t c.rows_done
+        (cleans-here shared script before e later t (formed_is_shaped script valid) c cleaned) in
         let none = ap (total (mutex_names v)) empty.owned in absurd (omega arith)
     | inr over ↦ over
   ]

@@ -51,7 +51,9 @@ record LosesLittle (e : Entry) : Type 0 where
   pub once : losses e.effects ≤ 1
   pub none : is_return e.step ≡ true → losses e.effects ≡ 0
 
-loses-little : (script : Script) (S : State) (e : Entry) → IsShaped script → AreRows script S → e.step ≡ (transition script S e.actor).outcome.step → e.effects ≡ (transition script S e.actor).outcome.effects → LosesLittle e
+loses-little : (script : Script) (S : State) (e : Entry) → IsShaped script → AreRows script S
+    → e.step ≡ (transition script S e.actor).outcome.step → e.effects ≡ (transition script S e.actor).outcome.effects
+    → LosesLittle e
 loses-little script S e shaped rows step effects =
     let few = once-next script S e.actor shaped rows in
     let all : losses e.effects ≡ total close_bit (moves_of script S e.actor) = ap losses effects ∙ next-loses script S e.actor in
@@ -59,7 +61,8 @@ loses-little script S e shaped rows step effects =
     record { once = omega arith; none = λ is. let one : return_bit e.step ≡ 1 = if_is (is_return e.step) 1 is in omega arith }
 
 -- so do those of a legal history
-each-loses : (script : Script) (S : State) (place : ℕ) (es : List Entry) → IsShaped script → AreRows script S → IsLegalFrom script S place es → AllByRecursion LosesLittle es
+each-loses : (script : Script) (S : State) (place : ℕ) (es : List Entry) → IsShaped script → AreRows script S
+    → IsLegalFrom script S place es → AllByRecursion LosesLittle es
 each-loses script S place [] shaped rows legal = tt
 each-loses script S place (e ∷ es) shaped rows legal =
     let T = choosing e S in

@@ -15,12 +15,20 @@ use Rattle.machine_safe.specs.IdleChoice.{IsIdleChoice}
 use Rattle.machine_safe.specs.ReadyHolders.{AreHoldersReadyIn}
 
 pub holders_ready : (shared : Bool) (script : Script) (history : List Entry) → IsWellFormed script → AreHoldersReadyIn shared script history
-holders_ready shared script history valid f u is = holder_ready script (after_in shared script history) f u (well_formed-after shared script history valid).rows is
+holders_ready shared script history valid f u is =
+    holder_ready script (after_in shared script history) f u (well_formed-after shared script history valid).rows is
 
-pub chosen_able : (shared : Bool) (script : Script) (history : List Entry) → IsWellFormed script → CanAct script (after_in shared script history) (chosen (after_in shared script history) (arrived_in shared script history))
-chosen_able shared script history valid = can_act_chosen script (after_in shared script history) (arrived_in shared script history) (well_formed-after shared script history valid)
+pub chosen_able : (shared : Bool) (script : Script) (history : List Entry) → IsWellFormed script
+    → CanAct script (after_in shared script history)
+    (chosen (after_in shared script history) (arrived_in shared script history))
+chosen_able shared script history valid =
+    can_act_chosen script (after_in shared script history) (arrived_in shared script history)
+    (well_formed-after shared script history valid)
 
 pub idle_choice : (shared : Bool) (script : Script) (history : List Entry) → IsWellFormed script → IsIdleChoice shared script history
 idle_choice shared script history valid =
     let formed = well_formed-after shared script history valid in
-    record { idle = chosen_idle script (after_in shared script history) (arrived_in shared script history) formed; chosen = idle_chosen script (after_in shared script history) (arrived_in shared script history) formed }
+    record {
+      idle = chosen_idle script (after_in shared script history) (arrived_in shared script history) formed;
+      chosen = idle_chosen script (after_in shared script history) (arrived_in shared script history) formed;
+    }

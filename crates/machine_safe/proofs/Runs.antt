@@ -33,7 +33,8 @@ IsSoundRun script S [] = Unit {0}
 IsSoundRun script S (e ∷ es) = Sound script (choosing e S) (next_by script S e) e.effects × IsSoundRun script (next_by script S e) es
 
 -- the entries of a legal history are a sound run
-pub legal_runs : (script : Script) (S : State) (place : ℕ) (es : List Entry) → IsShaped script → AreRows script S → IsLegalFrom script S place es → IsSoundRun script S es
+pub legal_runs : (script : Script) (S : State) (place : ℕ) (es : List Entry) → IsShaped script → AreRows script S
+    → IsLegalFrom script S place es → IsSoundRun script S es
 legal_runs script S place [] shaped rows legal = tt
 legal_runs script S place (e ∷ es) shaped rows legal =
     let T = choosing e S in
@@ -52,11 +53,15 @@ run-rest script S [] ys h = h
 run-rest script S (x ∷ xs) ys h = run-rest script (next_by script S x) xs ys h.1
 
 -- the last entry of a run
-pub run-last : (script : Script) (S : State) (xs : List Entry) (e : Entry) → IsSoundRun script S (xs ++ e ∷ []) → Sound script (choosing e (after_from script S xs)) (after_from script S (xs ++ e ∷ [])) e.effects
-run-last script S xs e h = subst (λ (T : State). Sound script (choosing e (after_from script S xs)) T e.effects) (sym (after_from-push script S xs e)) (run-rest script S xs (e ∷ []) h).0
+pub run-last : (script : Script) (S : State) (xs : List Entry) (e : Entry) → IsSoundRun script S (xs ++ e ∷ [])
+    → Sound script (choosing e (after_from script S xs)) (after_from script S (xs ++ e ∷ [])) e.effects
+run-last script S xs e h =
+    subst (λ (T : State). Sound script (choosing e (after_from script S xs)) T e.effects)
+    (sym (after_from-push script S xs e)) (run-rest script S xs (e ∷ []) h).0
 
 -- counts move as the effects of all entries say
-pub run-counts : (script : Script) (S : State) (es : List Entry) (o : ObjNo) → IsSoundRun script S es → count_of (after_from script S es) o + minuses (effects_of es) o ≡ count_of S o + pluses (effects_of es) o
+pub run-counts : (script : Script) (S : State) (es : List Entry) (o : ObjNo) → IsSoundRun script S es
+    → count_of (after_from script S es) o + minuses (effects_of es) o ≡ count_of S o + pluses (effects_of es) o
 run-counts script S [] o h = refl
 run-counts script S (e ∷ es) o h =
     let a = h.0.lives.counts o in
@@ -65,7 +70,8 @@ run-counts script S (e ∷ es) o h =
     let m = minuses-append e.effects (effects_of es) o in omega arith
 
 -- an object is gone where it was or died
-pub run-gone : (script : Script) (S : State) (es : List Entry) (o : ObjNo) → IsSoundRun script S es → gone (after_from script S es).references.objects o ≡ gone S.references.objects o + deaths (effects_of es) o
+pub run-gone : (script : Script) (S : State) (es : List Entry) (o : ObjNo) → IsSoundRun script S es
+    → gone (after_from script S es).references.objects o ≡ gone S.references.objects o + deaths (effects_of es) o
 run-gone script S [] o h = omega arith
 run-gone script S (e ∷ es) o h =
     let a = h.0.lives.deads o in
@@ -73,7 +79,8 @@ run-gone script S (e ∷ es) o h =
     let d = deaths-append e.effects (effects_of es) o in omega arith
 
 -- and swept where it was or its row went
-pub run-swept : (script : Script) (S : State) (es : List Entry) (o : ObjNo) → IsSoundRun script S es → swept (after_from script S es).references.objects o ≡ swept S.references.objects o + removals (effects_of es) o
+pub run-swept : (script : Script) (S : State) (es : List Entry) (o : ObjNo) → IsSoundRun script S es
+    → swept (after_from script S es).references.objects o ≡ swept S.references.objects o + removals (effects_of es) o
 run-swept script S [] o h = omega arith
 run-swept script S (e ∷ es) o h =
     let a = h.0.lives.sweeps o in
@@ -81,7 +88,8 @@ run-swept script S (e ∷ es) o h =
     let d = removals-append e.effects (effects_of es) o in omega arith
 
 -- nobody opens an object that is gone
-pub run-closed : (script : Script) (S : State) (es : List Entry) (o : ObjNo) → IsSoundRun script S es → gone S.references.objects o ≡ 1 → pluses (effects_of es) o ≡ 0
+pub run-closed : (script : Script) (S : State) (es : List Entry) (o : ObjNo) → IsSoundRun script S es
+    → gone S.references.objects o ≡ 1 → pluses (effects_of es) o ≡ 0
 run-closed script S [] o h dead = refl
 run-closed script S (e ∷ es) o h dead =
     let T = next_by script S e in

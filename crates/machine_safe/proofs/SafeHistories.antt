@@ -34,12 +34,16 @@ use Rattle.std.proofs.lemmas.Bool.{cases_lt}
 pub record IsSplit (shared : Bool) (script : Script) (before : List Entry) (e : Entry) (later : List Entry) : Type 0 where
   pub front : IsSoundRun script (boot_in shared script) before
   pub run : IsSoundRun script (boot_in shared script) (before ++ e ∷ [])
-  pub step : Sound script (choosing e (after_from script (boot_in shared script) before)) (after_from script (boot_in shared script) (before ++ e ∷ [])) e.effects
+  pub step : Sound script (choosing e (after_from script (boot_in shared script) before))
+      (after_from script (boot_in shared script) (before ++ e ∷ [])) e.effects
   pub rest : IsSoundRun script (after_from script (boot_in shared script) (before ++ e ∷ [])) later
 
-pub split : (shared : Bool) (script : Script) (history before : List Entry) (e : Entry) (later : List Entry) → IsSoundRun script (boot_in shared script) history → history ≡ before ++ e ∷ later → IsSplit shared script before e later
+pub split : (shared : Bool) (script : Script) (history before : List Entry) (e : Entry) (later : List Entry)
+    → IsSoundRun script (boot_in shared script) history → history ≡ before ++ e ∷ later
+    → IsSplit shared script before e later
 split shared script history before e later run is =
-    let at : IsSoundRun script (boot_in shared script) ((before ++ e ∷ []) ++ later) = subst (IsSoundRun script (boot_in shared script)) (is ∙ sym (append_assoc before (e ∷ []) later)) run in
+    let at : IsSoundRun script (boot_in shared script) ((before ++ e ∷ []) ++ later) =
+    subst (IsSoundRun script (boot_in shared script)) (is ∙ sym (append_assoc before (e ∷ []) later)) run in
     let first = run-front script (boot_in shared script) (before ++ e ∷ []) later at in
     record {
       front = run-front script (boot_in shared script) before (e ∷ []) first;
@@ -49,27 +53,38 @@ split shared script history before e later run is =
     }
 
 -- the count read off a history is the state's, with the finds that open the object later
-pub count_after-is : (shared : Bool) (script : Script) (first later : List Entry) (o : ObjNo) → IsSoundRun script (boot_in shared script) first → count_after script first later o ≡ count_of (after_from script (boot_in shared script) first) o + finds_to_open first later o
+pub count_after-is : (shared : Bool) (script : Script) (first later : List Entry) (o : ObjNo)
+    → IsSoundRun script (boot_in shared script) first
+    → count_after script first later o ≡ count_of
+    (after_from script (boot_in shared script) first) o + finds_to_open first later o
 count_after-is shared script first later o run = let a = run-counts script (boot_in shared script) first o run in omega arith
 
 -- an object that died in an entry is gone after it
-dead_is_gone : (shared : Bool) (script : Script) (before : List Entry) (e : Entry) (later : List Entry) (o : ObjNo) → IsSplit shared script before e later → 0 < deaths e.effects o → gone (after_from script (boot_in shared script) (before ++ e ∷ [])).references.objects o ≡ 1
+dead_is_gone : (shared : Bool) (script : Script) (before : List Entry) (e : Entry) (later : List Entry) (o : ObjNo)
+    → IsSplit shared script before e later → 0 < deaths e.effects o
+    → gone (after_from script (boot_in shared script) (before ++ e ∷ [])).references.objects o ≡ 1
 dead_is_gone shared script before e later o s dead =
     let moved = s.step.lives.deads o in
     let le = gone_le (after_from script (boot_in shared script) (before ++ e ∷ [])).references.objects o in omega arith
 
-dies_only_at_zero : (shared : Bool) (script : Script) (history : List Entry) → IsSoundRun script (boot_in shared script) history → (o : ObjNo) → DiesOnlyAtZero script history o
+dies_only_at_zero : (shared : Bool) (script : Script) (history : List Entry)
+    → IsSoundRun script (boot_in shared script) history → (o : ObjNo) → DiesOnlyAtZero script history o
 dies_only_at_zero shared script history run o before e later is dead =
     let s = split shared script history before e later run is in
     let last = s.step.lives.last o dead in
-    let closed = run-closed script (after_from script (boot_in shared script) (before ++ e ∷ [])) later o s.rest (dead_is_gone shared script before e later o s dead) in
+    let closed = run-closed script (after_from script (boot_in shared script) (before ++ e ∷ [])) later o s.rest
+    (dead_is_gone shared script before e later o s dead) in
     let count = count_after-is shared script (before ++ e ∷ []) later o s.run in
     let none = no_find_to_open (before ++ e ∷ []) later o closed in
     let zero : count_of (after_from script (boot_in shared script) (before ++ e ∷ [])) o ≡ 0 = last.1 in
     (last.0, omega arith)
 
 -- where nobody is out, it dies where its last reference goes
-pub dies_unless_out : (shared : Bool) (script : Script) (before : List Entry) (e : Entry) (later : List Entry) (o : ObjNo) → IsWellFormed script → IsSplit shared script before e later → 0 < minuses e.effects o → count_after script (before ++ e ∷ []) later o ≡ 0 → outs_of (after_in shared script (before ++ e ∷ [])) o ≡ 0 → 0 < deaths e.effects o
+pub dies_unless_out : (shared : Bool) (script : Script) (before : List Entry) (e : Entry) (later : List Entry)
+    (o : ObjNo)
+    → IsWellFormed script → IsSplit shared script before e later → 0 < minuses e.effects o
+    → count_after script (before ++ e ∷ []) later o ≡ 0 → outs_of (after_in shared script (before ++ e ∷ [])) o ≡ 0
+    → 0 < deaths e.effects o
 dies_unless_out shared script before e later o valid s taken zero out =
     let S = after_in shared script before in
     let T = after_in shared script (before ++ e ∷ []) in
@@ -78,12 +93,14 @@ dies_unless_out shared script before e later o valid s taken zero out =
     lives-dies (choosing e S) T e.effects s.step.lives rows.lives o taken (omega arith)
 
 -- so it does in each history that a single caller makes
-pub dies_at_zero : (script : Script) (history : List Entry) → IsWellFormed script → IsSoundRun script (boot script) history → (o : ObjNo) → DiesAtZero false script history o
+pub dies_at_zero : (script : Script) (history : List Entry) → IsWellFormed script
+    → IsSoundRun script (boot script) history → (o : ObjNo) → DiesAtZero false script history o
 dies_at_zero script history valid run o before e later is taken zero =
     let s = split false script history before e later run is in
     let T = after script (before ++ e ∷ []) in
     let alone : T.mode.shared ≡ false = shared-after script (boot script) (before ++ e ∷ []) in
-    inl (dies_unless_out false script before e later o valid s taken zero (ap (λ (shared : Bool). if shared then total (seeks o) T.references.threads else 0) alone))
+    inl (dies_unless_out false script before e later o valid s taken zero
+    (ap (λ (shared : Bool). if shared then total (seeks o) T.references.threads else 0) alone))
 
 has_one_life : (shared : Bool) (script : Script) (history : List Entry) → IsSoundRun script (boot_in shared script) history → (o : ObjNo) → HasOneLife history o
 has_one_life shared script history run o = record {
@@ -96,7 +113,9 @@ has_one_life shared script history run o = record {
 }
 
 -- what is swept then was dead before
-swept_died : (shared : Bool) (script : Script) (before : List Entry) (e : Entry) (later : List Entry) (o : ObjNo) → IsShaped script → IsSplit shared script before e later → removals (effects_of (before ++ e ∷ [])) o ≤ deaths (effects_of before) o
+swept_died : (shared : Bool) (script : Script) (before : List Entry) (e : Entry) (later : List Entry) (o : ObjNo)
+    → IsShaped script → IsSplit shared script before e later
+    → removals (effects_of (before ++ e ∷ [])) o ≤ deaths (effects_of before) o
 swept_died shared script before e later o shaped s =
     let S = after_from script (boot_in shared script) before in
     let T = after_from script (boot_in shared script) (before ++ e ∷ []) in
@@ -110,7 +129,8 @@ swept_died shared script before e later o shaped s =
       | inr quiet ↦ omega arith
     ]
 
-dies_once : (shared : Bool) (script : Script) (history : List Entry) → IsShaped script → IsSoundRun script (boot_in shared script) history → (o : ObjNo) → DiesOnceALife history o
+dies_once : (shared : Bool) (script : Script) (history : List Entry) → IsShaped script
+    → IsSoundRun script (boot_in shared script) history → (o : ObjNo) → DiesOnceALife history o
 dies_once shared script history shaped run o = record {
   dies = λ before e later is.
       let s = split shared script history before e later run is in
@@ -124,11 +144,16 @@ dies_once shared script history shaped run o = record {
 }
 
 -- each Plus names a holder that doesn't hold the object then, and each Minus one that does
-pub run-holders : (shared : Bool) (script : Script) (history : List Entry) → IsShaped script → IsSoundRun script (boot_in shared script) history → EachFitsHolders (held_at_boot script) (effects_of history)
-run-holders shared script history shaped run = fits-same (held_in (boot_in shared script)) (held_at_boot script) (effects_of history) (held-boot script shaped) (run-fits script (boot_in shared script) history run)
+pub run-holders : (shared : Bool) (script : Script) (history : List Entry) → IsShaped script
+    → IsSoundRun script (boot_in shared script) history → EachFitsHolders (held_at_boot script) (effects_of history)
+run-holders shared script history shaped run =
+    fits-same (held_in (boot_in shared script)) (held_at_boot script) (effects_of history) (held-boot script shaped)
+    (run-fits script (boot_in shared script) history run)
 
 -- a sound run from boot is safe
-pub run-safe : (shared : Bool) (script : Script) (history : List Entry) → IsShaped script → IsSoundRun script (boot_in shared script) history → ((o : ObjNo) → DiesAtZero shared script history o) → ((o : ObjNo) → MissesTheDead history o) → IsSafeReferences shared script history
+pub run-safe : (shared : Bool) (script : Script) (history : List Entry) → IsShaped script
+    → IsSoundRun script (boot_in shared script) history → ((o : ObjNo) → DiesAtZero shared script history o)
+    → ((o : ObjNo) → MissesTheDead history o) → IsSafeReferences shared script history
 run-safe shared script history shaped run always missed = record {
   holders = run-holders shared script history shaped run;
   only = dies_only_at_zero shared script history run;
@@ -139,5 +164,8 @@ run-safe shared script history shaped run always missed = record {
 }
 
 -- the entries of a legal history are a sound run from boot
-pub legal_run : (shared : Bool) (script : Script) (history : List Entry) → IsWellFormed script → IsLegalIn shared script history → IsSoundRun script (boot_in shared script) history
-legal_run shared script history valid legal = legal_runs script (boot_in shared script) 1 history (formed_is_shaped script valid) (rows-boot shared script valid) legal
+pub legal_run : (shared : Bool) (script : Script) (history : List Entry) → IsWellFormed script
+    → IsLegalIn shared script history → IsSoundRun script (boot_in shared script) history
+legal_run shared script history valid legal =
+    legal_runs script (boot_in shared script) 1 history (formed_is_shaped script valid)
+    (rows-boot shared script valid) legal

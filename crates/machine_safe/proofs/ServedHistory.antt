@@ -29,13 +29,38 @@ use Rattle.machine.specs.Decide.{answer}
 
 -- Process 2 has thread 3, which serves, and process 4 has thread 5, its client.
 abbrev pub serving_thread : ThreadDecl
-serving_thread = record { name = codes "sv"; priority = 20; held = false; process = Some 0; instrs = Server (codes "files") 0 ∷ Complete 0 (pos 0) ∷ Complete 1 (pos 5) ∷ Close 0 ∷ [] }
+serving_thread = record {
+  name = codes "sv";
+  priority = 20;
+  held = false;
+  process = Some 0;
+  instrs = Server (codes "files") 0 ∷ Complete 0 (pos 0) ∷ Complete 1 (pos 5) ∷ Close 0 ∷ [];
+}
 
 abbrev pub client_thread : ThreadDecl
-client_thread = record { name = codes "c"; priority = 10; held = false; process = Some 1; instrs = Connect (codes "files") (slots.Own 1) 0 ∷ Send 0 1 0 (record { 0 = Number (pos 0); 1 = Number (pos 0); 2 = Number (pos 0); 3 = Number (pos 0) }) ∷ [] }
+client_thread = record {
+  name = codes "c";
+  priority = 10;
+  held = false;
+  process = Some 1;
+  instrs =
+      Connect (codes "files") (slots.Own 1) 0 ∷ Send 0 1 0
+      (record { 0 = Number (pos 0); 1 = Number (pos 0); 2 = Number (pos 0); 3 = Number (pos 0) }) ∷ [];
+}
 
 abbrev pub served_script : Script
-served_script = record { version = 1; pool = 0; fast = 0; queues = []; dfcs = []; idfcs = []; irqs = []; processes = record { name = codes "ps" } ∷ record { name = codes "pc" } ∷ []; threads = serving_thread ∷ client_thread ∷ []; slots = [] }
+served_script = record {
+  version = 1;
+  pool = 0;
+  fast = 0;
+  queues = [];
+  dfcs = [];
+  idfcs = [];
+  irqs = [];
+  processes = record { name = codes "ps" } ∷ record { name = codes "pc" } ∷ [];
+  threads = serving_thread ∷ client_thread ∷ [];
+  slots = [];
+}
 
 -- object n, message n, and an entry of thread t
 abbrev pub number : ℕ → ObjNo
@@ -52,10 +77,14 @@ abbrev pub accepted : ℕ → List Effect
 accepted n = effect.Accept (message n) ∷ effect.Plus (holder.Message (message n)) (number 7) ∷ effect.Plus (holder.Message (message n)) (number 5) ∷ []
 
 abbrev pub serves : Entry
-serves = acts 1 3 (step.Of word.Server part.Do) (effect.Plus (holder.Own (number 3)) (number 6) ∷ effect.Plus (holder.InThread (number 3) 0) (number 6) ∷ []) (Some (pos 1073807360))
+serves =
+    acts 1 3 (step.Of word.Server part.Do) (effect.Plus (holder.Own (number 3)) (number 6) ∷ effect.Plus
+    (holder.InThread (number 3) 0) (number 6) ∷ []) (Some (pos 1073807360))
 
 abbrev pub joins : Entry
-joins = acts 2 5 (step.Of word.Connect part.Make) (effect.Plus (holder.InThread (number 5) 0) (number 7) ∷ effect.Plus (holder.Link (number 7)) (number 6) ∷ []) None
+joins =
+    acts 2 5 (step.Of word.Connect part.Make)
+    (effect.Plus (holder.InThread (number 5) 0) (number 7) ∷ effect.Plus (holder.Link (number 7)) (number 6) ∷ []) None
 
 -- the session is linked in another step than the one that makes sessions
 abbrev pub links_elsewhere : Entry
@@ -99,7 +128,8 @@ AtEach P before (e ∷ es) = P before e × AtEach P (before ++ e ∷ []) es
 pub same_first : {A : Type 0} (a b : A) (xs ys : List A) → a ∷ xs ≡ b ∷ ys → (a ≡ b) × (xs ≡ ys)
 same_first a b xs ys e = (cc, cc)
 
-pub at-each : (P : List Entry → Entry → Type 0) (front es before : List Entry) (e : Entry) (later : List Entry) → AtEach P front es → es ≡ before ++ e ∷ later → P (front ++ before) e
+pub at-each : (P : List Entry → Entry → Type 0) (front es before : List Entry) (e : Entry) (later : List Entry)
+    → AtEach P front es → es ≡ before ++ e ∷ later → P (front ++ before) e
 at-each P front [] [] e later all is = absurd (cc)
 at-each P front [] (b ∷ bs) e later all is = absurd (cc)
 at-each P front (x ∷ xs) [] e later all is =
@@ -107,7 +137,9 @@ at-each P front (x ∷ xs) [] e later all is =
     subst (λ (l : List Entry). P l e) (sym (append-nil front)) (subst (P front) first.0 all.0)
 at-each P front (x ∷ xs) (b ∷ bs) e later all is =
     let first = same_first x b xs (bs ++ e ∷ later) is in
-    subst (λ (l : List Entry). P l e) (append_assoc front (b ∷ []) bs) (subst (λ (y : Entry). P (front ++ y ∷ [] ++ bs) e) first.0 (at-each P (front ++ x ∷ []) xs bs e later all.1 first.1))
+    subst (λ (l : List Entry). P l e) (append_assoc front (b ∷ []) bs)
+    (subst (λ (y : Entry). P (front ++ y ∷ [] ++ bs) e) first.0
+    (at-each P (front ++ x ∷ []) xs bs e later all.1 first.1))
 
 -- which message a finish names
 pub one_number : (n : ℕ) (m : MsgNo) → 0 < (if n == m.0 then 1 else 0) + 0 → message n ≡ m
@@ -120,17 +152,45 @@ one_number n m some = by (n == m.0) refl some
 -- both messages are accepted as they should
 pub first_accepted : IsAcceptance served_script (serves ∷ joins ∷ []) connects
 unfolding boot_of
-first_accepted = record { message = message 1; by = record { session = number 7; client = number 5; rest = []; told = refl }; number = refl; only = refl; client = refl; step = refl; server = number 6; linked = refl; accepting = refl; lasts = refl }
+first_accepted = record {
+  message = message 1;
+  by = record { session = number 7; client = number 5; rest = []; told = refl };
+  number = refl;
+  only = refl;
+  client = refl;
+  step = refl;
+  server = number 6;
+  linked = refl;
+  accepting = refl;
+  lasts = refl;
+}
 
 pub second_accepted : IsAcceptance served_script (opens ++ first_end ∷ connected ∷ []) (sends 6 2)
 unfolding boot_of
-second_accepted = record { message = message 2; by = record { session = number 7; client = number 5; rest = []; told = refl }; number = refl; only = refl; client = refl; step = refl; server = number 6; linked = refl; accepting = refl; lasts = refl }
+second_accepted = record {
+  message = message 2;
+  by = record { session = number 7; client = number 5; rest = []; told = refl };
+  number = refl;
+  only = refl;
+  client = refl;
+  step = refl;
+  server = number 6;
+  linked = refl;
+  accepting = refl;
+  lasts = refl;
+}
 
 -- and finished
 first_finished : IsFinish served_script opens first_end (message 1)
 unfolding boot_of
 first_finished = record {
-  accepted = record { before = serves ∷ joins ∷ []; at = connects; later = []; stands = refl; by = record { session = number 7; client = number 5; rest = []; told = refl } };
+  accepted = record {
+    before = serves ∷ joins ∷ [];
+    at = connects;
+    later = [];
+    stands = refl;
+    by = record { session = number 7; client = number 5; rest = []; told = refl };
+  };
   once = refl;
   server = number 6;
   linked = refl;
@@ -145,7 +205,13 @@ first_finished = record {
 second_finished : IsFinish served_script (opens ++ first_end ∷ connected ∷ sends 6 2 ∷ []) second_end (message 2)
 unfolding boot_of
 second_finished = record {
-  accepted = record { before = opens ++ first_end ∷ connected ∷ []; at = sends 6 2; later = []; stands = refl; by = record { session = number 7; client = number 5; rest = []; told = refl } };
+  accepted = record {
+    before = opens ++ first_end ∷ connected ∷ [];
+    at = sends 6 2;
+    later = [];
+    stands = refl;
+    by = record { session = number 7; client = number 5; rest = []; told = refl };
+  };
   once = refl;
   server = number 6;
   linked = refl;
@@ -217,7 +283,10 @@ nothing_left m a linked = at-each IsDone [] before_stop a.before a.at a.later al
 
 -- So the history is safe.
 abbrev pub IsFine : List Entry → Entry → Type 0
-IsFine before e = (0 < accepts e.effects → IsAcceptance served_script before e) × ((m : MsgNo) → 0 < finishes e.effects m → IsFinish served_script before e m) × ((v : ObjNo) → 0 < ends e.effects v → IsEnd before e v)
+IsFine before e =
+    (0 < accepts e.effects → IsAcceptance served_script before e)
+    × ((m : MsgNo) → 0 < finishes e.effects m → IsFinish served_script before e m)
+    × ((v : ObjNo) → 0 < ends e.effects v → IsEnd before e v)
 
 pub one_object : (n : ℕ) (v : ObjNo) → 0 < (if n == v.0 then 1 else 0) + 0 → number n ≡ v
 one_object n v some = by (n == v.0) refl some
@@ -234,17 +303,33 @@ each_fine = (
     (
       (λ some. first_accepted, λ m some. absurd (omega arith), λ v some. absurd (omega arith)),
       (
-        (λ some. absurd (omega arith), λ m some. subst (IsFinish served_script opens first_end) (one_number 1 m some) first_finished, λ v some. absurd (omega arith)),
+        (
+          λ some. absurd (omega arith),
+          λ m some. subst (IsFinish served_script opens first_end)
+              (one_number 1 m some) first_finished,
+          λ v some. absurd (omega arith),
+        ),
         (
           (λ some. absurd (omega arith), λ m some. absurd (omega arith), λ v some. absurd (omega arith)),
           (
             (λ some. second_accepted, λ m some. absurd (omega arith), λ v some. absurd (omega arith)),
             (
-              (λ some. absurd (omega arith), λ m some. subst (IsFinish served_script (opens ++ first_end ∷ connected ∷ sends 6 2 ∷ []) second_end) (one_number 2 m some) second_finished, λ v some. absurd (omega arith)),
+              (
+                λ some. absurd (omega arith),
+                λ m some. subst
+                    (IsFinish served_script (opens ++ first_end ∷ connected ∷ sends 6 2 ∷ []) second_end)
+                    (one_number 2 m some) second_finished,
+                λ v some. absurd (omega arith),
+              ),
               (
                 (λ some. absurd (omega arith), λ m some. absurd (omega arith), λ v some. absurd (omega arith)),
                 (
-                  (λ some. absurd (omega arith), λ m some. absurd (omega arith), λ v some. subst (IsEnd before_stop stops) (one_object 6 v some) (record { closing = refl; first = refl; once = refl; alone = refl; left = nothing_left })),
+                  (
+                    λ some. absurd (omega arith),
+                    λ m some. absurd (omega arith),
+                    λ v some. subst (IsEnd before_stop stops) (one_object 6 v some)
+                        (record { closing = refl; first = refl; once = refl; alone = refl; left = nothing_left }),
+                  ),
                   tt,
                 ),
               ),

@@ -39,7 +39,8 @@ module _ (script : Script) (S : State) (place : ℕ) (e : Entry) (alone : IsAlon
   silent : TellsNoDeath kept (transition script S e.actor).outcome.effects
   silent keeps = ap (λ (x : Entry). is_deathless x.effects) (sym told-alone) ∙ keeps
 
-  acts : transition script (in_mode true kept S) e.actor ≡ record { state = in_mode true kept (next script S e.actor); outcome = (transition script S e.actor).outcome }
+  acts : transition script (in_mode true kept S) e.actor
+      ≡ record { state = in_mode true kept (next script S e.actor); outcome = (transition script S e.actor).outcome }
   acts = transition-mode script kept S alone e.actor n.able silent
 
   -- an entry of one caller alone may stand where callers share the kernel, and leaves the same rows
@@ -53,7 +54,8 @@ module _ (script : Script) (S : State) (place : ℕ) (e : Entry) (alone : IsAlon
   }
 
 -- so do entries
-legal-mode : (script : Script) (keep : Bool) (S : State) (place : ℕ) (es : List Entry) → IsAlone S → IsLegalFrom script S place es → IsLegalFrom script (in_mode true keep S) place es
+legal-mode : (script : Script) (keep : Bool) (S : State) (place : ℕ) (es : List Entry) → IsAlone S
+    → IsLegalFrom script S place es → IsLegalFrom script (in_mode true keep S) place es
 legal-mode script keep S place [] alone legal = tt
 legal-mode script keep S place (e ∷ es) alone legal = (
   is_next-mode script S place e alone legal.0 keep,
@@ -61,7 +63,9 @@ legal-mode script keep S place (e ∷ es) alone legal = (
       (legal-mode script (is_deathless e.effects) (next_by script S e) (place + 1) es (alone-next script e S alone) legal.1),
 )
 
-after-mode : (script : Script) (keep : Bool) (S : State) (place : ℕ) (es : List Entry) → IsAlone S → IsLegalFrom script S place es → (kept : Bool) × (after_from script (in_mode true keep S) es ≡ in_mode true kept (after_from script S es))
+after-mode : (script : Script) (keep : Bool) (S : State) (place : ℕ) (es : List Entry) → IsAlone S
+    → IsLegalFrom script S place es
+    → (kept : Bool) × (after_from script (in_mode true keep S) es ≡ in_mode true kept (after_from script S es))
 after-mode script keep S place [] alone legal = (keep, refl)
 after-mode script keep S place (e ∷ es) alone legal =
     let r = after-mode script (is_deathless e.effects) (next_by script S e) (place + 1) es (alone-next script e S alone) legal.1 in
@@ -86,7 +90,9 @@ same_rows script keep S alone = record {
   serving = refl;
   services = refl;
   able = able-mode script keep S alone;
-  may = λ t. ap (λ (able : Bool). able || is_out (in_mode true keep S) t) (able-mode script keep S alone t) ∙ may_of (is_able script S t) (is_out (in_mode true keep S) t);
+  may =
+      λ t. ap (λ (able : Bool). able || is_out (in_mode true keep S) t) (able-mode script keep S alone t)
+      ∙ may_of (is_able script S t) (is_out (in_mode true keep S) t);
 }
 
 pub shared-too : (script : Script) (history : List Entry) → IsLegal script history → IsSharedToo script history

@@ -33,7 +33,9 @@ module _ (script : Script) (shaped : IsShaped script) where
   returns-here : (S : State) (place : ℕ) (e : Entry) (es : List Entry) → Stands script S place (e ∷ es) → is_return e.step ≡ is_back_next S e.actor
   returns-here S place e es h =
       let keep = S.mode.shared && is_deathless e.effects in
-      ap (λ (x : Entry). is_return x.step) h.legal.0.told ∙ (returns-exactly script (choosing e S) e.actor shaped (rows-keeping script S keep h.rows) h.at (able-keeping script S keep e.actor h.legal.0.able) ∙ same e.actor)
+      ap (λ (x : Entry). is_return x.step) h.legal.0.told
+      ∙ (returns-exactly script (choosing e S) e.actor shaped (rows-keeping script S keep h.rows) h.at
+      (able-keeping script S keep e.actor h.legal.0.able) ∙ same e.actor)
     where
       same : (actor : Actor) → is_back_next (choosing e S) actor ≡ is_back_next S actor
       same (Thread t) = refl
@@ -53,13 +55,16 @@ returns-all script history valid legal before e later is =
     let shaped = formed_is_shaped script valid in
     let S = boot_in true script in
     let rest = stands-rest script shaped S 1 before (e ∷ later) (subst (Stands script S 1) is (stands-boot true script history valid legal)) in
-    returns-here script shaped (after_in true script before) rest.0 e later rest.1 ∙ out-back (after_in true script before) e.actor (shared-after script S before)
+    returns-here script shaped (after_in true script before) rest.0 e later rest.1
+    ∙ out-back (after_in true script before) e.actor (shared-after script S before)
 
 -- whoever found an object is between the find and its return until its next entry
 pub comes-next-all : (script : Script) (history : List Entry) → IsWellFormedScript script → IsShared script history → ComesBackNext history
 comes-next-all script history valid legal before find between back later t o is by_find found none by_back =
     let shaped = formed_is_shaped script valid in
-    let all : Stands script (boot_in true script) 1 (before ++ ((find ∷ between) ++ (back ∷ later))) = subst (Stands script (boot_in true script) 1) (is ∙ append_assoc before (find ∷ between) (back ∷ later)) (stands-boot true script history valid legal) in
+    let all : Stands script (boot_in true script) 1 (before ++ ((find ∷ between) ++ (back ∷ later))) =
+    subst (Stands script (boot_in true script) 1) (is ∙ append_assoc before (find ∷ between) (back ∷ later))
+    (stands-boot true script history valid legal) in
     let first = stands-rest script shaped (boot_in true script) 1 before (find ∷ between ++ back ∷ later) all in
     let S = after_in true script before in
     let T = next_by script S find in
@@ -69,7 +74,8 @@ comes-next-all script history valid legal before find between back later t o is 
     let last = stands-rest script shaped T (first.0 + 1) between (back ∷ later) behind in
     let U = after_from script T between in
     let on = out-on U t o (omega arith) in
-    returns-here script shaped U last.0 back later last.1 ∙ acts U back.actor (ap (λ (r : Option ThreadRow). is_returning (part_of r)) on.is ∙ on.returns) by_back
+    returns-here script shaped U last.0 back later last.1
+    ∙ acts U back.actor (ap (λ (r : Option ThreadRow). is_returning (part_of r)) on.is ∙ on.returns) by_back
   where
     acts : (U : State) (actor : Actor) → is_returning (part_of (thread_of U t)) ≡ true → is_by t actor ≡ true → is_back_next U actor ≡ true
     acts U (Thread u) returns by = subst (λ (x : ObjNo). is_returning (part_of (thread_of U x)) ≡ true) (sym (same_object u t (eqb-true u.0 t.0 by))) returns
@@ -79,5 +85,6 @@ comes-next-all script history valid legal before find between back later t o is 
     acts U Idle returns by = absurd (cc)
 
 -- a part that takes all slots and brings everybody back is the whole
-pub run-whole : (script : Script) (history : List Entry) → IsWellFormedScript script → IsSharedPart script history → slots_taken history ≡ length script.slots → returns_in history ≡ finds_in history → IsSharedRun script history
+pub run-whole : (script : Script) (history : List Entry) → IsWellFormedScript script → IsSharedPart script history
+    → slots_taken history ≡ length script.slots → returns_in history ≡ finds_in history → IsSharedRun script history
 run-whole script history valid part all back = record { part = part; all = all; back = (finds-counted script history valid part.shared).back back }

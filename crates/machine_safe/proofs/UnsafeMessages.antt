@@ -44,7 +44,8 @@ coded_wrong safe =
     let end = safe.finished opens other_code [] (message 1) refl (omega arith) in
     let told : pos 5 ≡ end.code = ap finish_code end.told in
     let own : number 3 ≡ end.owner = cc in
-    let cause : Some (pos 0) ≡ Some end.code = subst (λ (u : ObjNo). code_of_complete (instruction_in served_script opens u) ≡ Some end.code) (sym own) end.cause in
+    let cause : Some (pos 0) ≡ Some end.code = subst
+    (λ (u : ObjNo). code_of_complete (instruction_in served_script opens u) ≡ Some end.code) (sym own) end.cause in
     let code : pos 0 ≡ end.code = cc in cc
 
 -- A client that was doomed gets no signal.
@@ -67,7 +68,8 @@ third_object (a ∷ b ∷ effect.Plus h c ∷ rest) = c
 third_object _ = number 0
 
 -- what is told of dooms before a message is accepted, and from then on
-since_accepted : (history : List Entry) (a : WasAccepted history (message 1)) (c : ObjNo) → dooms (effects_of history) c ≡ dooms (effects_of a.before) c + dooms (effects_of (a.at ∷ a.later)) c
+since_accepted : (history : List Entry) (a : WasAccepted history (message 1)) (c : ObjNo)
+    → dooms (effects_of history) c ≡ dooms (effects_of a.before) c + dooms (effects_of (a.at ∷ a.later)) c
 since_accepted history a c =
     let parts = ap (λ (l : List Entry). dooms (effects_of l) c) a.stands in
     let split = ap (λ (l : List Effect). dooms l c) (effects-append a.before (a.at ∷ a.later)) in
@@ -79,7 +81,13 @@ NamesClient n before e = (by : Accepts e (message 1)) → (number 5 ≡ by.clien
 
 each_named : AtEach (NamesClient 0) [] (opens ++ dies ∷ [])
 unfolding third_object
-each_named = (λ a. absurd (other_told serves (message 1) refl a), (λ a. absurd (other_told joins (message 1) refl a), (λ a. (ap third_object a.told, refl), (λ a. absurd (other_told dies (message 1) refl a), tt))))
+each_named = (
+  λ a. absurd (other_told serves (message 1) refl a),
+  (
+    λ a. absurd (other_told joins (message 1) refl a),
+    (λ a. (ap third_object a.told, refl), (λ a. absurd (other_told dies (message 1) refl a), tt)),
+  ),
+)
 
 signalled_dead : (script : Script) → IsSafeMessages script (opens ++ dies ∷ late_end ∷ []) → ⊥
 signalled_dead script safe =
@@ -91,10 +99,13 @@ signalled_dead script safe =
     let all = since_accepted before a (number 5) in
     let once : dooms (effects_of before) (number 5) ≡ 1 = refl in
     let since : nat_lt 0 (dooms (effects_of (a.at ∷ a.later)) (number 5)) ≡ true = lt-ltb 0 (dooms (effects_of (a.at ∷ a.later)) (number 5)) (omega arith) in
-    let doomed : nat_lt 0 (dooms (effects_of (a.at ∷ a.later)) a.by.client) ≡ true = subst (λ (c : ObjNo). nat_lt 0 (dooms (effects_of (a.at ∷ a.later)) c) ≡ true) named.0 since in
+    let doomed : nat_lt 0 (dooms (effects_of (a.at ∷ a.later)) a.by.client) ≡ true =
+    subst (λ (c : ObjNo). nat_lt 0 (dooms (effects_of (a.at ∷ a.later)) c) ≡ true) named.0 since in
     let told = ap length end.told in
     let silent = nothing_more (status_by a.at.step (instruction_in script a.before a.by.client)) a.by.client end.code in
-    let same = ap (λ (b : Bool). length (notice (status_by a.at.step (instruction_in script a.before a.by.client)) b a.by.client end.code)) doomed in absurd (omega arith)
+    let same = ap (λ (b : Bool). length (notice
+    (status_by a.at.step (instruction_in script a.before a.by.client)) b a.by.client end.code)) doomed in
+    absurd (omega arith)
 
 -- No message is accepted once the handle of its server is closed.
 accepted_late : (script : Script) → IsSafeMessages script (opens ++ first_end ∷ connected ∷ closes 6 ∷ sends 7 2 ∷ []) → ⊥
@@ -102,7 +113,9 @@ unfolding second_object
 accepted_late script safe =
     let a = safe.acceptances (opens ++ first_end ∷ connected ∷ closes 6 ∷ []) (sends 7 2) [] refl (omega arith) in
     let session : number 7 ≡ a.by.session = ap second_object a.by.told in
-    let server : Some (number 6) ≡ Some a.server = subst (λ (s : ObjNo). server_in (opens ++ first_end ∷ connected ∷ closes 6 ∷ []) s ≡ Some a.server) (sym session) a.linked in
+    let server : Some (number 6) ≡ Some a.server = subst
+    (λ (s : ObjNo). server_in (opens ++ first_end ∷ connected ∷ closes 6 ∷ []) s ≡ Some a.server)
+    (sym session) a.linked in
     let own : number 6 ≡ a.server = cc in
     let accepting : true ≡ false = subst (λ (v : ObjNo). is_closing_in (opens ++ first_end ∷ connected ∷ closes 6 ∷ []) v ≡ false) (sym own) a.accepting in cc
 
@@ -115,7 +128,9 @@ unfolding second_object
 accepted_unhandled script safe =
     let a = safe.acceptances (opens ++ first_end ∷ connected ∷ loses 6 ∷ []) (sends 7 2) [] refl (omega arith) in
     let session : number 7 ≡ a.by.session = ap second_object a.by.told in
-    let server : Some (number 6) ≡ Some a.server = subst (λ (s : ObjNo). server_in (opens ++ first_end ∷ connected ∷ loses 6 ∷ []) s ≡ Some a.server) (sym session) a.linked in
+    let server : Some (number 6) ≡ Some a.server = subst
+    (λ (s : ObjNo). server_in (opens ++ first_end ∷ connected ∷ loses 6 ∷ []) s ≡ Some a.server)
+    (sym session) a.linked in
     let own : number 6 ≡ a.server = cc in
     let accepting : true ≡ false = subst (λ (v : ObjNo). is_closing_in (opens ++ first_end ∷ connected ∷ loses 6 ∷ []) v ≡ false) (sym own) a.accepting in cc
 
@@ -137,7 +152,10 @@ unfolding boot_of third_object
 accepted_misplaced safe =
     let a = safe.acceptances (serves ∷ joins ∷ []) sends_connecting [] refl (omega arith) in
     let client : number 5 ≡ a.by.client = ap third_object a.by.told in
-    let other : false ≡ true = subst (λ (u : ObjNo). accepts_by (step.Of word.Send part.Do) (status_by (step.Of word.Send part.Do) (instruction_in served_script (serves ∷ joins ∷ []) u)) ≡ true) (sym client) a.step in cc
+    let other : false ≡ true = subst (λ (u : ObjNo). accepts_by (step.Of word.Send part.Do)
+    (status_by (step.Of word.Send part.Do) (instruction_in served_script (serves ∷ joins ∷ []) u)) ≡ true)
+    (sym client) a.step in
+    cc
 
 -- Messages are numbered in order, one an entry, and it is the acting thread that sends.
 first_message : List Effect → MsgNo
@@ -185,7 +203,8 @@ accepted_ended script safe =
     let before = opens ++ first_end ∷ connected ∷ stops ∷ [] in
     let a = safe.acceptances (opens ++ first_end ∷ connected ∷ stops ∷ []) (sends 7 2) [] refl (omega arith) in
     let session : number 7 ≡ a.by.session = ap second_object a.by.told in
-    let server : Some (number 6) ≡ Some a.server = subst (λ (x : ObjNo). server_in (opens ++ first_end ∷ connected ∷ stops ∷ []) x ≡ Some a.server) (sym session) a.linked in
+    let server : Some (number 6) ≡ Some a.server = subst
+    (λ (x : ObjNo). server_in (opens ++ first_end ∷ connected ∷ stops ∷ []) x ≡ Some a.server) (sym session) a.linked in
     let own : number 6 ≡ a.server = cc in
     let lasts : ◌≡◌ {A = ℕ} 1 0 = subst (λ (v : ObjNo). ends_in (opens ++ first_end ∷ connected ∷ stops ∷ []) v ≡ 0) (sym own) a.lasts in absurd (omega arith)
 
@@ -194,7 +213,17 @@ abbrev never_accepted : List Entry → Entry → Type 0
 never_accepted before e = Accepts e (message 9) → ⊥
 
 each_other : AtEach never_accepted [] opens
-each_other = (λ a. other_told serves (message 9) refl a, (λ a. other_told joins (message 9) refl a, (λ a. let same : ◌≡◌ {A = ℕ} 1 9 = ap (λ (m : MsgNo). m.0) (number_told 1 connects (message 9) refl a) in omega arith, tt)))
+each_other = (
+  λ a. other_told serves (message 9) refl a,
+  (
+    λ a. other_told joins (message 9) refl a,
+    (
+      λ a. let same : ◌≡◌ {A = ℕ} 1 9 = ap (λ (m : MsgNo). m.0) (number_told 1 connects (message 9) refl a) in
+          omega arith,
+      tt,
+    ),
+  ),
+)
 
 finished_unaccepted : (script : Script) → IsSafeMessages script (opens ++ completes 4 9 (effect.Finish (message 9) (pos 0) ∷ []) ∷ []) → ⊥
 finished_unaccepted script safe =
@@ -207,7 +236,13 @@ NamesServer before e = (by : Accepts e (message 1)) → Some (number 6) ≡ serv
 
 each_server : AtEach NamesServer [] opens
 unfolding second_object
-each_server = (λ a. absurd (other_told serves (message 1) refl a), (λ a. absurd (other_told joins (message 1) refl a), (λ a. ap (server_in (serves ∷ joins ∷ [])) (ap second_object a.told), tt)))
+each_server = (
+  λ a. absurd (other_told serves (message 1) refl a),
+  (
+    λ a. absurd (other_told joins (message 1) refl a),
+    (λ a. ap (server_in (serves ∷ joins ∷ [])) (ap second_object a.told), tt),
+  ),
+)
 
 abbrev ends_own : Entry
 ends_own = acts 4 5 (step.Of word.Complete part.Do) (effect.Finish (message 1) (pos 0) ∷ effect.Signal (number 5) status.Sync (pos 0) ∷ []) (Some (pos 0))
@@ -234,7 +269,9 @@ each_status = (
   (
     λ a. absurd (other_told joins (message 1) refl a),
     (
-      λ a. subst (λ (u : ObjNo). Some status.Sync ≡ status_by (step.Of word.Connect part.Send) (instruction_in served_script (serves ∷ joins ∷ []) u)) (ap third_object a.told) refl,
+      λ a. subst (λ (u : ObjNo). Some status.Sync
+          ≡ status_by (step.Of word.Connect part.Send) (instruction_in served_script (serves ∷ joins ∷ []) u))
+          (ap third_object a.told) refl,
       tt,
     ),
   ),
@@ -255,15 +292,22 @@ told_nobody safe =
     let all = ap length end.told in
     let none = undoomed a.by.client in
     let sum = since_accepted opens a a.by.client in
-    let doomed = ap (λ (b : Bool). length (notice (status_by a.at.step (instruction_in served_script a.before a.by.client)) b a.by.client end.code)) (le-ltb 0 (dooms (effects_of (a.at ∷ a.later)) a.by.client) (omega arith)) in
-    let one : ◌≡◌ {A = ℕ} 1 (length (notice (status_by a.at.step (instruction_in served_script a.before a.by.client)) false a.by.client end.code)) = ap (λ (x : Option StatusNo). length (notice x false a.by.client end.code)) told in absurd (omega arith)
+    let doomed = ap (λ (b : Bool). length (notice
+    (status_by a.at.step (instruction_in served_script a.before a.by.client)) b a.by.client end.code))
+    (le-ltb 0 (dooms (effects_of (a.at ∷ a.later)) a.by.client) (omega arith)) in
+    let one : ◌≡◌ {A = ℕ} 1 (length (notice
+    (status_by a.at.step (instruction_in served_script a.before a.by.client)) false a.by.client end.code)) =
+    ap (λ (x : Option StatusNo). length (notice x false a.by.client end.code)) told in
+    absurd (omega arith)
 
 -- And a doom before the message was accepted is of an earlier life, and takes nothing away from what it is told.
 abbrev died_before : List Entry
 died_before = dies ∷ opens
 
 abbrev NamesLiving : List Entry → Entry → Type 0
-NamesLiving before e = (by : Accepts e (message 1)) → (Some status.Sync ≡ status_by e.step (instruction_in served_script before by.client)) × ((number 5 ≡ by.client) × (dooms (effects_of before) (number 5) ≡ 1))
+NamesLiving before e =
+    (by : Accepts e (message 1)) → (Some status.Sync ≡ status_by e.step (instruction_in served_script before by.client))
+    × ((number 5 ≡ by.client) × (dooms (effects_of before) (number 5) ≡ 1))
 
 each_living : AtEach NamesLiving [] died_before
 unfolding boot_of third_object
@@ -274,7 +318,12 @@ each_living = (
     (
       λ a. absurd (other_told joins (message 1) refl a),
       (
-        λ a. (subst (λ (u : ObjNo). Some status.Sync ≡ status_by (step.Of word.Connect part.Send) (instruction_in served_script (dies ∷ serves ∷ joins ∷ []) u)) (ap third_object a.told) refl, (ap third_object a.told, refl)),
+        λ a. (
+          subst (λ (u : ObjNo). Some status.Sync
+              ≡ status_by (step.Of word.Connect part.Send) (instruction_in served_script (dies ∷ serves ∷ joins ∷ []) u))
+              (ap third_object a.told) refl,
+          (ap third_object a.told, refl),
+        ),
         tt,
       ),
     ),
@@ -290,7 +339,11 @@ told_nobody_again safe =
     let sum = since_accepted died_before a (number 5) in
     let once : dooms (effects_of died_before) (number 5) ≡ 1 = refl in
     let since : nat_lt 0 (dooms (effects_of (a.at ∷ a.later)) (number 5)) ≡ false = le-ltb 0 (dooms (effects_of (a.at ∷ a.later)) (number 5)) (omega arith) in
-    let living : nat_lt 0 (dooms (effects_of (a.at ∷ a.later)) a.by.client) ≡ false = subst (λ (c : ObjNo). nat_lt 0 (dooms (effects_of (a.at ∷ a.later)) c) ≡ false) named.1.0 since in
+    let living : nat_lt 0 (dooms (effects_of (a.at ∷ a.later)) a.by.client) ≡ false =
+    subst (λ (c : ObjNo). nat_lt 0 (dooms (effects_of (a.at ∷ a.later)) c) ≡ false) named.1.0 since in
     let all = ap length end.told in
     let doomed = ap (λ (b : Bool). length (notice (status_by a.at.step (instruction_in served_script a.before a.by.client)) b a.by.client end.code)) living in
-    let one : ◌≡◌ {A = ℕ} 1 (length (notice (status_by a.at.step (instruction_in served_script a.before a.by.client)) false a.by.client end.code)) = ap (λ (x : Option StatusNo). length (notice x false a.by.client end.code)) named.0 in absurd (omega arith)
+    let one : ◌≡◌ {A = ℕ} 1 (length (notice
+    (status_by a.at.step (instruction_in served_script a.before a.by.client)) false a.by.client end.code)) =
+    ap (λ (x : Option StatusNo). length (notice x false a.by.client end.code)) named.0 in
+    absurd (omega arith)

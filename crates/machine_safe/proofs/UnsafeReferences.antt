@@ -54,10 +54,15 @@ lived_on script none safe = elim (safe.always (number 5) (opens 1 ∷ []) (close
 
 -- nobody opens it before it is swept, nor afterwards
 opened_late : (shared : Bool) (script : Script) → IsSafeReferences shared script (ends 1 ∷ opens 2 ∷ []) → ⊥
-opened_late shared script safe = let none : ◌≡◌ {A = ℕ} 1 0 = (safe.lives (number 5)).closed [] (ends 1) (opens 2 ∷ []) [] refl (omega arith) refl in omega arith
+opened_late shared script safe =
+    let none : ◌≡◌ {A = ℕ} 1 0 = (safe.lives (number 5)).closed [] (ends 1) (opens 2 ∷ []) [] refl (omega arith) refl in
+    omega arith
 
 opened_swept : (shared : Bool) (script : Script) → IsSafeReferences shared script (ends 1 ∷ sweeps 2 ∷ opens 3 ∷ []) → ⊥
-opened_swept shared script safe = let none : ◌≡◌ {A = ℕ} 1 0 = (safe.once (number 5)).closed [] (ends 1) (sweeps 2 ∷ opens 3 ∷ []) refl (omega arith) in omega arith
+opened_swept shared script safe =
+    let none : ◌≡◌ {A = ℕ} 1 0 = (safe.once (number 5)).closed [] (ends 1) (sweeps 2 ∷ opens 3 ∷ []) refl
+    (omega arith) in
+    omega arith
 
 -- its row goes once, and not before
 swept_twice : (shared : Bool) (script : Script) → IsSafeReferences shared script (ends 1 ∷ sweeps 2 ∷ sweeps 3 ∷ []) → ⊥

@@ -11,10 +11,19 @@ use Rattle.machine_safe.proofs.ServedHistory.{number, message, acts, accepted, s
 
 -- No server ends with a message that isn't finished, or twice in an entry.
 abbrev first_accept : WasAccepted (opens ++ closes 4 ∷ []) (message 1)
-first_accept = record { before = serves ∷ joins ∷ []; at = connects; later = closes 4 ∷ []; stands = refl; by = record { session = number 7; client = number 5; rest = []; told = refl } }
+first_accept = record {
+  before = serves ∷ joins ∷ [];
+  at = connects;
+  later = closes 4 ∷ [];
+  stands = refl;
+  by = record { session = number 7; client = number 5; rest = []; told = refl };
+}
 
 ended_serving : (script : Script) → IsSafeMessages script (opens ++ closes 4 ∷ stops ∷ []) → ⊥
-ended_serving script safe = let done : ◌≡◌ {A = ℕ} 0 1 = (safe.ended (opens ++ closes 4 ∷ []) stops [] (number 6) refl (omega arith)).left (message 1) first_accept refl in absurd (omega arith)
+ended_serving script safe =
+    let done : ◌≡◌ {A = ℕ} 0 1 = (safe.ended (opens ++ closes 4 ∷ []) stops [] (number 6) refl (omega arith)).left
+    (message 1) first_accept refl in
+    absurd (omega arith)
 
 abbrev stops_doubly : Entry
 stops_doubly = acts 9 3 step.Stop (effect.Terminated (number 6) ∷ effect.Terminated (number 6) ∷ []) None
@@ -27,13 +36,18 @@ ended_open : (script : Script) → IsSafeMessages script (opens ++ first_end ∷
 ended_open script safe = let closing : false ≡ true = (safe.ended (opens ++ first_end ∷ connected ∷ []) stops [] (number 6) refl (omega arith)).closing in cc
 
 ended_twice : (script : Script) → IsSafeMessages script (before_stop ++ stops ∷ stops ∷ []) → ⊥
-ended_twice script safe = let first : ◌≡◌ {A = ℕ} 1 0 = (safe.ended (before_stop ++ stops ∷ []) stops [] (number 6) refl (omega arith)).first in absurd (omega arith)
+ended_twice script safe =
+    let first : ◌≡◌ {A = ℕ} 1 0 = (safe.ended (before_stop ++ stops ∷ []) stops [] (number 6) refl
+    (omega arith)).first in
+    absurd (omega arith)
 
 abbrev stops_accepting : Entry
 stops_accepting = acts 9 3 step.Stop (effect.Terminated (number 6) ∷ accepted 3) None
 
 ended_accepting : (script : Script) → IsSafeMessages script (before_stop ++ stops_accepting ∷ []) → ⊥
-ended_accepting script safe = let alone : ◌≡◌ {A = ℕ} 1 0 = (safe.ended before_stop stops_accepting [] (number 6) refl (omega arith)).alone in absurd (omega arith)
+ended_accepting script safe =
+    let alone : ◌≡◌ {A = ℕ} 1 0 = (safe.ended before_stop stops_accepting [] (number 6) refl (omega arith)).alone in
+    absurd (omega arith)
 
 -- And no thread is cleaned before its server ended.
 abbrev owner_dies : Entry
@@ -43,14 +57,26 @@ abbrev owner_is_cleaned : Entry
 owner_is_cleaned = acts 3 3 step.Clean [] None
 
 cleaned_early : IsSafeServers (serves ∷ owner_dies ∷ owner_is_cleaned ∷ []) → ⊥
-cleaned_early safe = let over : 0 < 0 = safe.ended (serves ∷ owner_dies ∷ []) owner_is_cleaned [] (number 3) (number 6) refl (omega arith) refl in absurd (omega arith)
+cleaned_early safe =
+    let over : 0 < 0 = safe.ended (serves ∷ owner_dies ∷ []) owner_is_cleaned [] (number 3) (number 6) refl
+    (omega arith) refl in
+    absurd (omega arith)
 
 -- nor before its messages are finished
 abbrev early_stop : List Entry
 early_stop = opens ++ closes 4 ∷ stops ∷ []
 
 abbrev early_accept : WasAccepted early_stop (message 1)
-early_accept = record { before = serves ∷ joins ∷ []; at = connects; later = closes 4 ∷ stops ∷ []; stands = refl; by = record { session = number 7; client = number 5; rest = []; told = refl } }
+early_accept = record {
+  before = serves ∷ joins ∷ [];
+  at = connects;
+  later = closes 4 ∷ stops ∷ [];
+  stands = refl;
+  by = record { session = number 7; client = number 5; rest = []; told = refl };
+}
 
 cleaned_unfinished : IsSafeServers (early_stop ++ owner_is_cleaned ∷ []) → ⊥
-cleaned_unfinished safe = let done : ◌≡◌ {A = ℕ} 0 1 = safe.finished early_stop owner_is_cleaned [] (number 3) (number 6) refl (omega arith) refl (message 1) early_accept refl in absurd (omega arith)
+cleaned_unfinished safe =
+    let done : ◌≡◌ {A = ℕ} 0 1 = safe.finished early_stop owner_is_cleaned [] (number 3) (number 6) refl
+    (omega arith) refl (message 1) early_accept refl in
+    absurd (omega arith)

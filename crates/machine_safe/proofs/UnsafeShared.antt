@@ -46,13 +46,18 @@ abbrev left_outs : List Entry → List Entry → ObjNo → ℕ
 left_outs [] later o = 0
 left_outs (e ∷ es) later o = (if has_left e.actor (es ++ later) then finds e.effects o else 0) + left_outs es later o
 
-left-counted : (before : List Entry) (find : Entry) (between later : List Entry) (w o : ObjNo) → find.actor ≡ Thread w → 0 < finds find.effects o → first_by w (between ++ later) ≡ None → 0 < left_outs (before ++ find ∷ between) later o
+left-counted : (before : List Entry) (find : Entry) (between later : List Entry) (w o : ObjNo) → find.actor ≡ Thread w
+    → 0 < finds find.effects o → first_by w (between ++ later) ≡ None → 0 < left_outs (before ++ find ∷ between) later o
 left-counted [] find between later w o by found gone =
-    let counted = if_is (has_left find.actor (between ++ later)) (finds find.effects o) (ap (λ (a : Actor). has_left a (between ++ later)) by ∙ ap is_none gone) in omega arith
+    let counted = if_is (has_left find.actor (between ++ later)) (finds find.effects o)
+    (ap (λ (a : Actor). has_left a (between ++ later)) by ∙ ap is_none gone) in
+    omega arith
 left-counted (x ∷ before) find between later w o by found gone = let rest = left-counted before find between later w o by found gone in omega arith
 
 left-some : (first later : List Entry) (o : ObjNo) → IsLeftOut first later o → 0 < left_outs first later o
-left-some first later o out = subst (λ (l : List Entry). 0 < left_outs l later o) (sym out.stands) (left-counted out.before out.find out.between later out.thread o out.actor out.found out.gone)
+left-some first later o out =
+    subst (λ (l : List Entry). 0 < left_outs l later o) (sym out.stands)
+    (left-counted out.before out.find out.between later out.thread o out.actor out.found out.gone)
 
 -- its last reference goes while nobody is out on it, and no death is told: nobody ever found it
 kept_unfound : (script : Script) → count_of (boot script) (number 5) ≡ 0 → IsSafeReferences true script (opens 1 ∷ closes 2 ∷ []) → ⊥
@@ -62,25 +67,42 @@ kept_unfound script none safe = elim (safe.always (number 5) (opens 1 ∷ []) (c
 ]
 
 -- or whoever found it is back, and has closed what he opened
-kept_back : (script : Script) → count_of (boot script) (number 5) ≡ 0 → IsSafeReferences true script (opens 1 ∷ found_by 2 4 ∷ opened_by 3 4 ∷ closed_by 4 4 ∷ closes 5 ∷ []) → ⊥
-kept_back script none safe = elim (safe.always (number 5) (opens 1 ∷ found_by 2 4 ∷ opened_by 3 4 ∷ closed_by 4 4 ∷ []) (closes 5) [] refl (omega arith) (omega arith)) [
-  | inl some ↦ let died : 0 < 0 = some in omega arith
-  | inr out ↦ let some : 0 < 0 = left-some (opens 1 ∷ found_by 2 4 ∷ opened_by 3 4 ∷ closed_by 4 4 ∷ closes 5 ∷ []) [] (number 5) out in omega arith
-]
+kept_back : (script : Script) → count_of (boot script) (number 5) ≡ 0
+    → IsSafeReferences true script (opens 1 ∷ found_by 2 4 ∷ opened_by 3 4 ∷ closed_by 4 4 ∷ closes 5 ∷ []) → ⊥
+kept_back script none safe =
+    elim (safe.always (number 5) (opens 1 ∷ found_by 2 4 ∷ opened_by 3 4 ∷ closed_by 4 4 ∷ []) (closes 5) [] refl
+    (omega arith) (omega arith)) [
+      | inl some ↦ let died : 0 < 0 = some in omega arith
+      | inr out ↦ let some : 0 < 0 = left-some (opens 1 ∷ found_by 2 4 ∷ opened_by 3 4 ∷ closed_by 4 4 ∷ closes 5 ∷ []) [] (number 5) out in omega arith
+    ]
 
 -- it is kept for thread 4, which misses it; thread 6 finds it meanwhile, and opens it
-kept_found : (script : Script) → count_of (boot script) (number 5) ≡ 0 → IsSafeReferences true script (opens 1 ∷ found_by 2 4 ∷ closes 3 ∷ found_by 4 6 ∷ opened_by 5 6 ∷ missed_by 6 4 ∷ []) → ⊥
-kept_found script none safe = elim (safe.always (number 5) (opens 1 ∷ found_by 2 4 ∷ []) (closes 3) (found_by 4 6 ∷ opened_by 5 6 ∷ missed_by 6 4 ∷ []) refl (omega arith) (omega arith)) [
-  | inl some ↦ let died : 0 < 0 = some in omega arith
-  | inr out ↦ let some : 0 < 0 = left-some (opens 1 ∷ found_by 2 4 ∷ closes 3 ∷ []) (found_by 4 6 ∷ opened_by 5 6 ∷ missed_by 6 4 ∷ []) (number 5) out in omega arith
-]
+kept_found : (script : Script) → count_of (boot script) (number 5) ≡ 0
+    → IsSafeReferences true script (opens 1 ∷ found_by 2 4 ∷ closes 3 ∷ found_by 4 6 ∷ opened_by 5 6 ∷ missed_by 6 4 ∷
+    [])
+    → ⊥
+kept_found script none safe =
+    elim (safe.always (number 5) (opens 1 ∷ found_by 2 4 ∷ []) (closes 3)
+    (found_by 4 6 ∷ opened_by 5 6 ∷ missed_by 6 4 ∷ []) refl (omega arith) (omega arith)) [
+      | inl some ↦ let died : 0 < 0 = some in omega arith
+      | inr out ↦
+          let some : 0 < 0 = left-some (opens 1 ∷ found_by 2 4 ∷ closes 3 ∷ [])
+          (found_by 4 6 ∷ opened_by 5 6 ∷ missed_by 6 4 ∷ []) (number 5) out in
+          omega arith
+    ]
 
 -- a return opens what died, before its row goes and afterwards
 opened_dead : (shared : Bool) (script : Script) → IsSafeReferences shared script (opens 1 ∷ found_by 2 4 ∷ ends 3 ∷ opened_by 4 4 ∷ []) → ⊥
-opened_dead shared script safe = let none : ◌≡◌ {A = ℕ} 1 0 = safe.missed (number 5) (opens 1 ∷ []) (found_by 2 4) (ends 3 ∷ []) (opened_by 4 4) [] (number 4) refl refl (omega arith) refl refl (omega arith) (number 5) in omega arith
+opened_dead shared script safe =
+    let none : ◌≡◌ {A = ℕ} 1 0 = safe.missed (number 5) (opens 1 ∷ []) (found_by 2 4) (ends 3 ∷ []) (opened_by 4 4) []
+    (number 4) refl refl (omega arith) refl refl (omega arith) (number 5) in
+    omega arith
 
 opened_swept : (shared : Bool) (script : Script) → IsSafeReferences shared script (opens 1 ∷ found_by 2 4 ∷ ends 3 ∷ sweeps 4 ∷ opened_by 5 4 ∷ []) → ⊥
-opened_swept shared script safe = let none : ◌≡◌ {A = ℕ} 1 0 = safe.missed (number 5) (opens 1 ∷ []) (found_by 2 4) (ends 3 ∷ sweeps 4 ∷ []) (opened_by 5 4) [] (number 4) refl refl (omega arith) refl refl (omega arith) (number 5) in omega arith
+opened_swept shared script safe =
+    let none : ◌≡◌ {A = ℕ} 1 0 = safe.missed (number 5) (opens 1 ∷ []) (found_by 2 4) (ends 3 ∷ sweeps 4 ∷ [])
+    (opened_by 5 4) [] (number 4) refl refl (omega arith) refl refl (omega arith) (number 5) in
+    omega arith
 
 -- a thread comes back twice
 opened_again : (shared : Bool) (script : Script) → IsSafeReferences shared script (opens 1 ∷ found_by 2 4 ∷ opened_by 3 4 ∷ opened_by 4 4 ∷ []) → ⊥
@@ -88,4 +110,7 @@ opened_again shared script safe = let none = safe.holders.1.1.1.0 in omega arith
 
 -- it dies while a thread is out on it that opens it later
 died_early : (shared : Bool) (script : Script) → IsSafeReferences shared script (opens 1 ∷ found_by 2 4 ∷ ends 3 ∷ opened_by 4 4 ∷ []) → ⊥
-died_early shared script safe = let zero = (safe.only (number 5) (opens 1 ∷ found_by 2 4 ∷ []) (ends 3) (opened_by 4 4 ∷ []) refl (omega arith)).1 in omega arith
+died_early shared script safe =
+    let zero = (safe.only (number 5) (opens 1 ∷ found_by 2 4 ∷ []) (ends 3) (opened_by 4 4 ∷ []) refl
+    (omega arith)).1 in
+    omega arith

@@ -54,9 +54,13 @@ is_out_actor S _ = false
 
 -- an entry is a return exactly if its actor is out before it
 abbrev pub ReturnsExactly : Script → List Entry → Type 0
-ReturnsExactly script history = (before : List Entry) (e : Entry) (later : List Entry) → history ≡ before ++ e ∷ later → is_return e.step ≡ is_out_actor (after_in true script before) e.actor
+ReturnsExactly script history =
+    (before : List Entry) (e : Entry) (later : List Entry) → history ≡ before ++ e ∷ later → is_return e.step
+    ≡ is_out_actor (after_in true script before) e.actor
 
 -- whoever found an object makes its return with its next entry
 abbrev pub ComesBackNext : List Entry → Type 0
-ComesBackNext history = (before : List Entry) (find : Entry) (between : List Entry) (back : Entry) (later : List Entry) (t o : ObjNo) → history ≡ before ++ find ∷ between ++ back ∷ later →
+ComesBackNext history =
+    (before : List Entry) (find : Entry) (between : List Entry) (back : Entry) (later : List Entry) (t o : ObjNo)
+    → history ≡ before ++ find ∷ between ++ back ∷ later →
     find.actor ≡ Thread t → 0 < finds find.effects o → first_by t between ≡ None → is_by t back.actor ≡ true → is_return back.step ≡ true

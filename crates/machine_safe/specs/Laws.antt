@@ -12,7 +12,9 @@ use Rattle.machine_safe.specs.CountAfter.{effects_of, count_after}
 
 -- a holder has the references that it had at boot, with those that effects add and without those that they take away
 abbrev pub HoldersAreTold : Bool → Script → List Entry → Type 0
-HoldersAreTold shared script history = (g : Holder) (x : ObjNo) → held_in (after_in shared script history) g x ≡ held_after_all (held_at_boot script) (effects_of history) g x
+HoldersAreTold shared script history =
+    (g : Holder) (x : ObjNo) → held_in (after_in shared script history) g x
+    ≡ held_after_all (held_at_boot script) (effects_of history) g x
 
 -- a holder has one reference to an object at most
 abbrev pub HoldersAreUnique : Bool → Script → List Entry → Type 0

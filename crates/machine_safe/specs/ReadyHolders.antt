@@ -9,7 +9,9 @@ use Rattle.machine.specs.Task.{is_ready}
 
 -- after a history, whoever holds a fast mutex is ready
 abbrev pub AreHoldersReadyIn : Bool → Script → List Entry → Type 0
-AreHoldersReadyIn shared script history = (f : ℕ) (u : ObjNo) → holder_of (after_in shared script history).synchronization.nano f ≡ Some u → is_ready script (after_in shared script history) u ≡ true
+AreHoldersReadyIn shared script history =
+    (f : ℕ) (u : ObjNo) → holder_of (after_in shared script history).synchronization.nano f ≡ Some u
+    → is_ready script (after_in shared script history) u ≡ true
 
 abbrev pub AreHoldersReady : Script → List Entry → Type 0
 AreHoldersReady script history = AreHoldersReadyIn false script history

@@ -42,7 +42,8 @@ pub record IsSendAnswer (script : Script) (before : List Entry) (e : Entry) : Ty
   pub session : ObjNo
   pub looked : looked_in before thread ≡ Some session
   pub answer : e.answer ≡ Some (answer_of (accepts_in before (server_in before session)) (is_full_in script before session (slots_in script before session)))
-  pub accepted : accepts e.effects ≡ accepted_of (accepts_in before (server_in before session)) (is_full_in script before session (slots_in script before session))
+  pub accepted : accepts e.effects ≡ accepted_of (accepts_in before (server_in before session))
+      (is_full_in script before session (slots_in script before session))
 
 pub record IsSafeBusy (script : Script) (history : List Entry) : Type 0 where
   pub answers : (before : List Entry) (e : Entry) (later : List Entry) → StandsAt history before e later → is_send e.step ≡ true → IsSendAnswer script before e

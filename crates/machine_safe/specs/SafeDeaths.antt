@@ -72,13 +72,16 @@ pub record DiesInOrder (history : List Entry) (t : ObjNo) : Type 0 where
   pub doomed : dooms (effects_of history) t ≤ 1
   pub cleaned : cleanings history t ≤ 1
   pub buried : burials (effects_of history) t ≤ 1
-  pub doom_first : (before : List Entry) (e : Entry) (later : List Entry) → StandsAt history before e later → 0 < cleanings (e ∷ []) t → 0 < dooms (effects_of before) t
+  pub doom_first : (before : List Entry) (e : Entry) (later : List Entry) → StandsAt history before e later
+      → 0 < cleanings (e ∷ []) t → 0 < dooms (effects_of before) t
   pub clean_first : (before : List Entry) (e : Entry) (later : List Entry) → StandsAt history before e later → 0 < burials e.effects t → 0 < cleanings before t
 
 -- after its doom it takes no lock and gets no signal; and at its doom it holds no fast mutex
 pub record DoomEnds (history : List Entry) (t : ObjNo) : Type 0 where
-  pub takes_none : (before : List Entry) (e : Entry) (later : List Entry) (lock : LockNo) → StandsAt history before e later → 0 < dooms e.effects t → takes (effects_of later) t lock ≡ 0
-  pub signals_none : (before : List Entry) (e : Entry) (later : List Entry) → StandsAt history before e later → 0 < dooms e.effects t → signals (effects_of later) t ≡ 0
+  pub takes_none : (before : List Entry) (e : Entry) (later : List Entry) (lock : LockNo)
+      → StandsAt history before e later → 0 < dooms e.effects t → takes (effects_of later) t lock ≡ 0
+  pub signals_none : (before : List Entry) (e : Entry) (later : List Entry) → StandsAt history before e later
+      → 0 < dooms e.effects t → signals (effects_of later) t ≡ 0
   pub fast : (before : List Entry) (e : Entry) (later : List Entry) (f : ℕ) → StandsAt history before e later → 0 < dooms e.effects t →
       takes (effects_of (before ++ e ∷ [])) t (Fast f) ≡ gives (effects_of (before ++ e ∷ [])) t (Fast f)
 
@@ -91,14 +94,20 @@ is_own t _ = false
 
 -- whether all other threads of a process are cleaned in entries
 abbrev pub OthersAreCleaned : Script → List Entry → ObjNo → ObjNo → Type 0
-OthersAreCleaned script before p t = (u : ObjNo) (row : ThreadRow) → thread_of (boot script) u ≡ Some row → row.process.0 ≡ p.0 → (u.0 ≡ t.0 → ⊥) → 0 < cleanings before u
+OthersAreCleaned script before p t =
+    (u : ObjNo) (row : ThreadRow) → thread_of (boot script) u ≡ Some row → row.process.0 ≡ p.0 → (u.0 ≡ t.0 → ⊥)
+    → 0 < cleanings before u
 
 -- As it is cleaned, it has given all locks back, and no reference of its own is left, and none of its process's table where it is the last
 -- thread of that.
 pub record CleanLeaves (script : Script) (history : List Entry) (t : ObjNo) : Type 0 where
-  pub locks : (before : List Entry) (e : Entry) (later : List Entry) (lock : LockNo) → StandsAt history before e later → 0 < cleanings (e ∷ []) t → takes (effects_of before) t lock ≡ gives (effects_of before) t lock
-  pub own : (before : List Entry) (e : Entry) (later : List Entry) (h : Holder) (o : ObjNo) → StandsAt history before e later → 0 < cleanings (e ∷ []) t → is_own t h ≡ true → held_after_all (held_at_boot script) (effects_of before) h o ≡ 0
-  pub handles : (before : List Entry) (e : Entry) (later : List Entry) (row : ThreadRow) (i : ℕ) (o : ObjNo) → StandsAt history before e later → 0 < cleanings (e ∷ []) t → thread_of (boot script) t ≡ Some row →
+  pub locks : (before : List Entry) (e : Entry) (later : List Entry) (lock : LockNo) → StandsAt history before e later
+      → 0 < cleanings (e ∷ []) t → takes (effects_of before) t lock ≡ gives (effects_of before) t lock
+  pub own : (before : List Entry) (e : Entry) (later : List Entry) (h : Holder) (o : ObjNo)
+      → StandsAt history before e later → 0 < cleanings (e ∷ []) t → is_own t h ≡ true
+      → held_after_all (held_at_boot script) (effects_of before) h o ≡ 0
+  pub handles : (before : List Entry) (e : Entry) (later : List Entry) (row : ThreadRow) (i : ℕ) (o : ObjNo)
+      → StandsAt history before e later → 0 < cleanings (e ∷ []) t → thread_of (boot script) t ≡ Some row →
       OthersAreCleaned script before row.process t → held_after_all (held_at_boot script) (effects_of before) (InProcess row.process i) o ≡ 0
 
 -- Nothing is a thread's: no lock, no place of its table, no logon on it, and no server, closing or not. This doesn't ask for its row, which may
@@ -114,11 +123,14 @@ pub record HasNone (S : State) (t : ObjNo) : Type 0 where
 -- has nothing left.
 pub record StaysDead (shared : Bool) (script : Script) (history : List Entry) (t : ObjNo) : Type 0 where
   pub acts : (before : List Entry) (e : Entry) (later : List Entry) → StandsAt history before e later → 0 < cleanings before t → is_by t e.actor ≡ false
-  pub gains : (before : List Entry) (e : Entry) (later : List Entry) (h : Holder) (o : ObjNo) → StandsAt history before e later → 0 < cleanings before t → is_own t h ≡ true → pluses_by e.effects h o ≡ 0
-  pub shares : (before : List Entry) (e : Entry) (later : List Entry) (row : ThreadRow) (i : ℕ) (o : ObjNo) → StandsAt history before e later → 0 < cleanings before t → thread_of (boot script) t ≡ Some row →
+  pub gains : (before : List Entry) (e : Entry) (later : List Entry) (h : Holder) (o : ObjNo)
+      → StandsAt history before e later → 0 < cleanings before t → is_own t h ≡ true → pluses_by e.effects h o ≡ 0
+  pub shares : (before : List Entry) (e : Entry) (later : List Entry) (row : ThreadRow) (i : ℕ) (o : ObjNo)
+      → StandsAt history before e later → 0 < cleanings before t → thread_of (boot script) t ≡ Some row →
       OthersAreCleaned script before row.process t → pluses_by e.effects (InProcess row.process i) o ≡ 0
   pub owes : (before later : List Entry) → history ≡ before ++ later → 0 < cleanings before t → owed_of (after_in shared script before) t ≡ []
-  pub has : (before later : List Entry) (row : ThreadRow) → history ≡ before ++ later → 0 < cleanings before t → thread_of (after_in shared script before) t ≡ Some row → holdings (after_in shared script before) t row ≡ []
+  pub has : (before later : List Entry) (row : ThreadRow) → history ≡ before ++ later → 0 < cleanings before t
+      → thread_of (after_in shared script before) t ≡ Some row → holdings (after_in shared script before) t row ≡ []
   pub none : (before later : List Entry) → history ≡ before ++ later → 0 < cleanings before t → HasNone (after_in shared script before) t
 
 pub record IsSafeDeaths (shared : Bool) (script : Script) (history : List Entry) : Type 0 where

@@ -63,11 +63,14 @@ pub record IsFinish (script : Script) (before : List Entry) (e : Entry) (m : Msg
   pub code : ℤ
   pub cause : code_by e.step (is_closing_in before server) (instruction_in script before owner) ≡ Some code
   pub told : e.effects ≡ effect.Finish m code ∷
-      notice (status_by accepted.at.step (instruction_in script accepted.before accepted.by.client)) (nat_lt 0 (dooms (effects_of (accepted.at ∷ accepted.later)) accepted.by.client)) accepted.by.client code
+      notice (status_by accepted.at.step (instruction_in script accepted.before accepted.by.client))
+      (nat_lt 0 (dooms (effects_of (accepted.at ∷ accepted.later)) accepted.by.client)) accepted.by.client code
 
 -- nothing is left of a server: each message is finished whose session was at it as that was accepted
 abbrev pub NothingLeft : List Entry → ObjNo → Type 0
-NothingLeft before v = (m : MsgNo) (accepted : WasAccepted before m) → server_in accepted.before accepted.by.session ≡ Some v → finishes (effects_of before) m ≡ 1
+NothingLeft before v =
+    (m : MsgNo) (accepted : WasAccepted before m) → server_in accepted.before accepted.by.session ≡ Some v
+    → finishes (effects_of before) m ≡ 1
 
 -- The end of a server: it is closing and has not ended, nothing is left of it, and nothing is accepted beside it.
 pub record IsEnd (before : List Entry) (e : Entry) (v : ObjNo) : Type 0 where
@@ -78,7 +81,9 @@ pub record IsEnd (before : List Entry) (e : Entry) (v : ObjNo) : Type 0 where
   pub left : NothingLeft before v
 
 pub record IsSafeMessages (script : Script) (history : List Entry) : Type 0 where
-  pub acceptances : (before : List Entry) (e : Entry) (later : List Entry) → StandsAt history before e later → 0 < accepts e.effects → IsAcceptance script before e
-  pub finished : (before : List Entry) (e : Entry) (later : List Entry) (m : MsgNo) → StandsAt history before e later → 0 < finishes e.effects m → IsFinish script before e m
+  pub acceptances : (before : List Entry) (e : Entry) (later : List Entry) → StandsAt history before e later
+      → 0 < accepts e.effects → IsAcceptance script before e
+  pub finished : (before : List Entry) (e : Entry) (later : List Entry) (m : MsgNo) → StandsAt history before e later
+      → 0 < finishes e.effects m → IsFinish script before e m
   -- a server ends where it is closing and nothing is left of it, once
   pub ended : (before : List Entry) (e : Entry) (later : List Entry) (v : ObjNo) → StandsAt history before e later → 0 < ends e.effects v → IsEnd before e v

@@ -23,14 +23,20 @@ DiesAtZero shared script history o = (before : List Entry) (e : Entry) (later : 
 -- A life of an object ends as its row is swept, and it dies once in it: each entry leaves it with at most one death more than sweeps, and with no more
 -- sweeps than there were deaths before; and from an entry that says that it died until its sweep no entry adds a reference to it.
 pub record DiesOnceALife (history : List Entry) (o : ObjNo) : Type 0 where
-  pub dies : (before : List Entry) (e : Entry) (later : List Entry) → history ≡ before ++ e ∷ later → deaths (effects_of (before ++ e ∷ [])) o ≤ removals (effects_of before) o + 1
-  pub swept : (before : List Entry) (e : Entry) (later : List Entry) → history ≡ before ++ e ∷ later → removals (effects_of (before ++ e ∷ [])) o ≤ deaths (effects_of before) o
-  pub closed : (before : List Entry) (e : Entry) (until later : List Entry) → history ≡ before ++ e ∷ (until ++ later) → 0 < deaths e.effects o → removals (effects_of until) o ≡ 0 → pluses (effects_of until) o ≡ 0
+  pub dies : (before : List Entry) (e : Entry) (later : List Entry) → history ≡ before ++ e ∷ later
+      → deaths (effects_of (before ++ e ∷ [])) o ≤ removals (effects_of before) o + 1
+  pub swept : (before : List Entry) (e : Entry) (later : List Entry) → history ≡ before ++ e ∷ later
+      → removals (effects_of (before ++ e ∷ [])) o ≤ deaths (effects_of before) o
+  pub closed : (before : List Entry) (e : Entry) (until later : List Entry) → history ≡ before ++ e ∷ (until ++ later)
+      → 0 < deaths e.effects o → removals (effects_of until) o ≡ 0 → pluses (effects_of until) o ≡ 0
 
 -- Who found it before its death opens nothing as he comes back.
 abbrev pub MissesTheDead : List Entry → ObjNo → Type 0
-MissesTheDead history o = (before : List Entry) (find : Entry) (between : List Entry) (back : Entry) (later : List Entry) (t : ObjNo) → history ≡ before ++ find ∷ between ++ back ∷ later →
-    find.actor ≡ Thread t → 0 < finds find.effects o → first_by t between ≡ None → is_by t back.actor ≡ true → 0 < deaths (effects_of between) o → (x : ObjNo) → pluses back.effects x ≡ 0
+MissesTheDead history o =
+    (before : List Entry) (find : Entry) (between : List Entry) (back : Entry) (later : List Entry) (t : ObjNo)
+    → history ≡ before ++ find ∷ between ++ back ∷ later →
+    find.actor ≡ Thread t → 0 < finds find.effects o → first_by t between ≡ None → is_by t back.actor ≡ true
+    → 0 < deaths (effects_of between) o → (x : ObjNo) → pluses back.effects x ≡ 0
 
 -- No number is used again, so it has one life: it dies once at most, and after that no entry adds a reference to it.
 pub record HasOneLife (history : List Entry) (o : ObjNo) : Type 0 where

@@ -8,5 +8,7 @@ use Rattle.machine_safe.specs.SafeMessages.{NothingLeft}
 use Rattle.machine_safe.specs.Served.{ends_in, owner_in}
 
 pub record IsSafeServers (history : List Entry) : Type 0 where
-  pub ended : (before : List Entry) (e : Entry) (later : List Entry) (t v : ObjNo) → StandsAt history before e later → 0 < cleanings (e ∷ []) t → owner_in before v ≡ Some t → 0 < ends_in before v
-  pub finished : (before : List Entry) (e : Entry) (later : List Entry) (t v : ObjNo) → StandsAt history before e later → 0 < cleanings (e ∷ []) t → owner_in before v ≡ Some t → NothingLeft before v
+  pub ended : (before : List Entry) (e : Entry) (later : List Entry) (t v : ObjNo) → StandsAt history before e later
+      → 0 < cleanings (e ∷ []) t → owner_in before v ≡ Some t → 0 < ends_in before v
+  pub finished : (before : List Entry) (e : Entry) (later : List Entry) (t v : ObjNo) → StandsAt history before e later
+      → 0 < cleanings (e ∷ []) t → owner_in before v ≡ Some t → NothingLeft before v

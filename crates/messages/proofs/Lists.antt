@@ -6,7 +6,8 @@ use Rattle.std.proofs.lemmas.Bool.{cases_Bool, ne_eqb}
 use Rattle.std.proofs.lemmas.List.Elements.{All-cons, All-head, All-tail}
 
 -- a list without the element at a place is the list without that element, where it stands once
-pub removed_alone : (x : ℕ) (xs : List ℕ) (i : ℕ) → i < length xs → get_or xs i 0 ≡ x → ((k : ℕ) → k < length xs → k ≢ i → get_or xs k 0 ≢ x) → remove xs i ≡ filter (λ y. not (eqb y x)) xs
+pub removed_alone : (x : ℕ) (xs : List ℕ) (i : ℕ) → i < length xs → get_or xs i 0 ≡ x
+    → ((k : ℕ) → k < length xs → k ≢ i → get_or xs k 0 ≢ x) → remove xs i ≡ filter (λ y. not (eqb y x)) xs
 removed_alone x [] i inside at alone = absurd (omega arith)
 removed_alone x (y ∷ ys) zero inside at alone =
     rw (eq-eqb y x at) (sym (none_gone ys (λ k short. alone (suc k) (omega arith) (λ e. omega arith))))
@@ -16,7 +17,9 @@ removed_alone x (y ∷ ys) zero inside at alone =
     none_gone (z ∷ zs) absent =
         rw (ne_eqb z x (absent 0 (omega arith))) (ap (λ (rest : List ℕ). z ∷ rest) (none_gone zs (λ k short. absent (suc k) (omega arith))))
 removed_alone x (y ∷ ys) (suc i) inside at alone =
-    rw (ne_eqb y x (alone 0 (omega arith) (λ e. omega arith))) (ap (λ (rest : List ℕ). y ∷ rest) (removed_alone x ys i (omega arith) at (λ k short other. alone (suc k) (omega arith) (λ e. other (omega arith)))))
+    rw (ne_eqb y x (alone 0 (omega arith) (λ e. omega arith)))
+    (ap (λ (rest : List ℕ). y ∷ rest) (removed_alone x ys i (omega arith) at
+    (λ k short other. alone (suc k) (omega arith) (λ e. other (omega arith)))))
 
 -- what holds of all others still holds of them once a number is gone
 pub All-others : (P Q : ℕ → Type 0) (x : ℕ) → ((y : ℕ) → y ≢ x → P y → Q y) → (xs : List ℕ) → All P xs → All Q (filter (λ y. not (eqb y x)) xs)
@@ -24,7 +27,10 @@ All-others P Q x keeps [] all = λ k d inside. absurd (omega arith)
 All-others P Q x keeps (y ∷ ys) all =
     elim (cases_Bool (eqb y x)) [
       | inl same ↦ rw same (All-others P Q x keeps ys (All-tail P y ys all))
-      | inr apart ↦ rw apart (All-cons Q y (filter (λ z. not (eqb z x)) ys) (keeps y (λ e. let no : false ≡ true = sym apart ∙ eq-eqb y x e in absurd (cc)) (All-head P y ys all)) (All-others P Q x keeps ys (All-tail P y ys all)))
+      | inr apart ↦
+          rw apart (All-cons Q y (filter (λ z. not (eqb z x)) ys)
+          (keeps y (λ e. let no : false ≡ true = sym apart ∙ eq-eqb y x e in absurd (cc)) (All-head P y ys all))
+          (All-others P Q x keeps ys (All-tail P y ys all)))
     ]
 
 module _ {Y : Type 0} where
@@ -35,7 +41,8 @@ module _ {Y : Type 0} where
       rw (All-head (λ y. f y ≡ g y) x xs all, map_alike f g xs (All-tail (λ y. f y ≡ g y) x xs all)) refl
 
   -- and once a number is gone whose meaning a test tells
-  pub map_others : (f g : ℕ → Y) (p : Y → Bool) (x : ℕ) → ((y : ℕ) → y ≢ x → g y ≡ f y) → (xs : List ℕ) → All (λ y. eqb y x ≡ p (f y)) xs → map g (filter (λ y. not (eqb y x)) xs) ≡ filter (λ y. not (p y)) (map f xs)
+  pub map_others : (f g : ℕ → Y) (p : Y → Bool) (x : ℕ) → ((y : ℕ) → y ≢ x → g y ≡ f y) → (xs : List ℕ)
+      → All (λ y. eqb y x ≡ p (f y)) xs → map g (filter (λ y. not (eqb y x)) xs) ≡ filter (λ y. not (p y)) (map f xs)
   map_others f g p x keeps [] told = refl
   map_others f g p x keeps (y ∷ ys) told =
       let rest = map_others f g p x keeps ys (All-tail (λ z. eqb z x ≡ p (f z)) y ys told) in
@@ -49,7 +56,8 @@ module _ {Y : Type 0} where
 
 -- the first element that passes a test, where it alone does, and none where none does
 module _ {X : Type 0} where
-  pub find_alone : (p : X → Bool) (xs : List X) (x : X) (i : ℕ) → i < length xs → get_or xs i x ≡ x → p x ≡ true → ((k : ℕ) → k < i → p (get_or xs k x) ≡ false) → find p xs ≡ Some x
+  pub find_alone : (p : X → Bool) (xs : List X) (x : X) (i : ℕ) → i < length xs → get_or xs i x ≡ x → p x ≡ true
+      → ((k : ℕ) → k < i → p (get_or xs k x) ≡ false) → find p xs ≡ Some x
   find_alone p [] x i inside at passes first = absurd (omega arith)
   find_alone p (y ∷ ys) x zero inside at passes first = rw (at, passes) refl
   find_alone p (y ∷ ys) x (suc i) inside at passes first =

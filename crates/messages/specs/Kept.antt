@@ -18,7 +18,19 @@ pub record Store : Type 0 where
 -- what a key without a message would have; it is never asked for
 abbrev pub no_message : Message
 no_message =
-    record { number = record { 0 = 0 }; slots = Pool; row = record { session = record { 0 = 0 }; server = record { 0 = 0 }; client = record { 0 = 0 }; function = pos 0; args = []; way = Sync; taken = false } }
+    record {
+      number = record { 0 = 0 };
+      slots = Pool;
+      row = record {
+        session = record { 0 = 0 };
+        server = record { 0 = 0 };
+        client = record { 0 = 0 };
+        function = pos 0;
+        args = [];
+        way = Sync;
+        taken = false;
+      };
+    }
 
 abbrev pub message_or : Option Message → Message
 message_or None = no_message

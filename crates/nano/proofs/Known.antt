@@ -37,11 +37,13 @@ found_inside test [] place is = absurd (cc)
 found_inside test (x ∷ xs) place is = (position-Some test (x ∷ xs) place x is).0
 
 -- each item that an operation adds
-idfc_known : (script : Script) (place : Option ℕ) (item : Item) → ((n : ℕ) → place ≡ Some n → n < length script.idfcs) → option_map Idfc place ≡ Some item → IsKnown (calls_of script) item
+idfc_known : (script : Script) (place : Option ℕ) (item : Item) → ((n : ℕ) → place ≡ Some n → n < length script.idfcs)
+    → option_map Idfc place ≡ Some item → IsKnown (calls_of script) item
 idfc_known script None item inside is = absurd (cc)
 idfc_known script (Some n) item inside is = let e : Idfc n ≡ item = cc in subst (IsKnown (calls_of script)) e (inside n refl)
 
-dfc_known : (script : Script) (place : Option ℕ) (item : Item) → ((n : ℕ) → place ≡ Some n → n < length script.dfcs) → option_map Move place ≡ Some item → IsKnown (calls_of script) item
+dfc_known : (script : Script) (place : Option ℕ) (item : Item) → ((n : ℕ) → place ≡ Some n → n < length script.dfcs)
+    → option_map Move place ≡ Some item → IsKnown (calls_of script) item
 dfc_known script None item inside is = absurd (cc)
 dfc_known script (Some n) item inside is =
     let low = inside n refl in
@@ -56,16 +58,20 @@ op_known script (op.Device x code) item is = absurd (cc)
 op_known script (op.Queue name) item is = absurd (cc)
 
 -- the items of a body
-joined : (P : Item → Type 0) (first : Option Item) (items : List Item) → ((item : Item) → first ≡ Some item → P item) → All P items → All P (cons_option first items)
+joined : (P : Item → Type 0) (first : Option Item) (items : List Item) → ((item : Item) → first ≡ Some item → P item)
+    → All P items → All P (cons_option first items)
 joined P None items known all = all
 joined P (Some item) items known all = All-cons P item items (known item refl) all
 
 body_known : (script : Script) (body : List Op) → All (IsKnown (calls_of script)) (filter_map (item_of script) body)
 body_known script [] = All-nil (IsKnown (calls_of script))
-body_known script (what ∷ body) = joined (IsKnown (calls_of script)) (item_of script what) (filter_map (item_of script) body) (op_known script what) (body_known script body)
+body_known script (what ∷ body) =
+    joined (IsKnown (calls_of script)) (item_of script what) (filter_map (item_of script) body) (op_known script what)
+    (body_known script body)
 
 -- the items of the interrupt at a place
-place_known : (script : Script) (irqs : List IrqBody) (place : ℕ) → All (IsKnown (calls_of script)) (added_by (slice_get (map (interrupt_of script) irqs) place))
+place_known : (script : Script) (irqs : List IrqBody) (place : ℕ)
+    → All (IsKnown (calls_of script)) (added_by (slice_get (map (interrupt_of script) irqs) place))
 place_known script [] place = All-nil (IsKnown (calls_of script))
 place_known script (irq ∷ irqs) zero = body_known script irq.body
 place_known script (irq ∷ irqs) (suc place) = place_known script irqs place
@@ -78,7 +84,9 @@ pub declared_known : (script : Script) (k : ℕ) → All (IsKnown (calls_of scri
 declared_known script k = some_known script (position (λ (interrupt : InterruptBody). interrupt.number == k) (interrupts_of script))
 
 -- what an interrupt adds, where it was found
-pub items_found : (interrupts : List InterruptBody) (k place : ℕ) (other : InterruptBody) → position (λ (interrupt : InterruptBody). interrupt.number == k) interrupts ≡ Some place → items_at interrupts k ≡ (get_or interrupts place other).items
+pub items_found : (interrupts : List InterruptBody) (k place : ℕ) (other : InterruptBody)
+    → position (λ (interrupt : InterruptBody). interrupt.number == k) interrupts ≡ Some place
+    → items_at interrupts k ≡ (get_or interrupts place other).items
 items_found interrupts k place other found =
     let inside = found_inside (λ (interrupt : InterruptBody). interrupt.number == k) interrupts place found in
     rw (found, slice_get-get_or interrupts place other inside) refl

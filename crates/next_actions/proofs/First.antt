@@ -23,13 +23,16 @@ use Rattle.next_actions.specs.NextActions.{has_any}
 abbrev handle_at : (ℕ → Holder) → ℕ × ObjNo → Holding
 handle_at holder slot = Handle (holder slot.0) slot.1
 
-slot_first : (holder : ℕ → Holder) (i : ℕ) (x : Option ObjNo) (rest : List HandleSlot) → slice_get (held_handles holder (i + 1) rest) 0 ≡ option_map (handle_at holder) (first_used (i + 1) rest)
+slot_first : (holder : ℕ → Holder) (i : ℕ) (x : Option ObjNo) (rest : List HandleSlot)
+    → slice_get (held_handles holder (i + 1) rest) 0 ≡ option_map (handle_at holder) (first_used (i + 1) rest)
     → slice_get (held_slot (holder i) x ++ held_handles holder (i + 1) rest) 0 ≡ option_map (handle_at holder) (first_here i x (first_used (i + 1) rest))
 slot_first holder i None rest h = h
 slot_first holder i (Some o) rest h = refl
 
 -- the first handle of a table is that of its first used slot
-pub handles_first : (holder : ℕ → Holder) (i : ℕ) (slots : List HandleSlot) → slice_get (held_handles holder i slots) 0 ≡ option_map (λ (slot : ℕ × ObjNo). Handle (holder slot.0) slot.1) (first_used i slots)
+pub handles_first : (holder : ℕ → Holder) (i : ℕ) (slots : List HandleSlot)
+    → slice_get (held_handles holder i slots) 0
+    ≡ option_map (λ (slot : ℕ × ObjNo). Handle (holder slot.0) slot.1) (first_used i slots)
 handles_first holder i [] = refl
 handles_first holder i (slot ∷ rest) = slot_first holder i slot.object rest (handles_first holder (i + 1) rest)
 
@@ -54,7 +57,9 @@ first_of_parts [] (what ∷ work) used handles logons = refl
 first_of_parts (o ∷ mutexes) work used handles logons = refl
 
 first_of_all : (S : State) (t : ObjNo) (row : ThreadRow)
-    → first_of (slice_get (slice_index_or S.synchronization.mutexes t.0 []) 0) (slice_get (held_servers S t) 0) row.uses (slice_get (held_handles (InThread t) 0 (table_of S t) ++ process_handles S t row.process) 0) (slice_get (logons_on S.synchronization.logons t) 0)
+    → first_of (slice_get (slice_index_or S.synchronization.mutexes t.0 []) 0) (slice_get (held_servers S t) 0) row.uses
+    (slice_get (held_handles (InThread t) 0 (table_of S t) ++ process_handles S t row.process) 0)
+    (slice_get (logons_on S.synchronization.logons t) 0)
     ≡ slice_get (holdings S t row) 0
 first_of_all S t row =
     let own = held_handles (InThread t) 0 (table_of S t) in
@@ -63,27 +68,49 @@ first_of_all S t row =
     ∙ ap (λ (l : List Holding). slice_get (l ++ held_logons S t) 0) (sym (append_assoc (held_mutexes S t ++ held_servers S t ++ held_use row.uses) own shared))
 
 -- so it is a mutex, or else of its closing servers, or else what its call uses, or else a handle, or else a logon
-by_parts : (S : State) (t : ObjNo) (row : ThreadRow) (mutex : Option ObjNo) (work : Option Holding) (used : Option ObjNo) (handle : Option Holding) (logon : Option (ObjNo × ℕ))
-    → slice_get (slice_index_or S.synchronization.mutexes t.0 []) 0 ≡ mutex → slice_get (held_servers S t) 0 ≡ work → row.uses ≡ used → slice_get (held_handles (InThread t) 0 (table_of S t) ++ process_handles S t row.process) 0 ≡ handle → slice_get (logons_on S.synchronization.logons t) 0 ≡ logon
+by_parts : (S : State) (t : ObjNo) (row : ThreadRow) (mutex : Option ObjNo) (work : Option Holding)
+    (used : Option ObjNo) (handle : Option Holding) (logon : Option (ObjNo × ℕ))
+    → slice_get (slice_index_or S.synchronization.mutexes t.0 []) 0 ≡ mutex → slice_get (held_servers S t) 0 ≡ work
+    → row.uses ≡ used → slice_get (held_handles (InThread t) 0 (table_of S t) ++ process_handles S t row.process) 0
+    ≡ handle → slice_get (logons_on S.synchronization.logons t) 0 ≡ logon
     → slice_get (holdings S t row) 0 ≡ first_of mutex work used handle logon
 by_parts S t row mutex work used handle logon m w u h l = rw (sym m, sym w, sym u, sym h, sym l) (sym (first_of_all S t row))
 
-pub of_mutex : (S : State) (t : ObjNo) (row : ThreadRow) (o : ObjNo) → slice_get (slice_index_or S.synchronization.mutexes t.0 []) 0 ≡ Some o → slice_get (holdings S t row) 0 ≡ Some (Mutex o)
+pub of_mutex : (S : State) (t : ObjNo) (row : ThreadRow) (o : ObjNo)
+    → slice_get (slice_index_or S.synchronization.mutexes t.0 []) 0 ≡ Some o
+    → slice_get (holdings S t row) 0 ≡ Some (Mutex o)
 of_mutex S t row o m = by_parts S t row (Some o) _ _ _ _ m refl refl refl refl
 
-pub of_work : (S : State) (t : ObjNo) (row : ThreadRow) (what : Holding) → slice_get (slice_index_or S.synchronization.mutexes t.0 []) 0 ≡ None → slice_get (held_servers S t) 0 ≡ Some what → slice_get (holdings S t row) 0 ≡ Some what
+pub of_work : (S : State) (t : ObjNo) (row : ThreadRow) (what : Holding)
+    → slice_get (slice_index_or S.synchronization.mutexes t.0 []) 0 ≡ None → slice_get (held_servers S t) 0 ≡ Some what
+    → slice_get (holdings S t row) 0 ≡ Some what
 of_work S t row what m w = by_parts S t row None (Some what) _ _ _ m w refl refl refl
 
-pub of_use : (S : State) (t : ObjNo) (row : ThreadRow) (o : ObjNo) → slice_get (slice_index_or S.synchronization.mutexes t.0 []) 0 ≡ None → slice_get (held_servers S t) 0 ≡ None → row.uses ≡ Some o → slice_get (holdings S t row) 0 ≡ Some (Use o)
+pub of_use : (S : State) (t : ObjNo) (row : ThreadRow) (o : ObjNo)
+    → slice_get (slice_index_or S.synchronization.mutexes t.0 []) 0 ≡ None → slice_get (held_servers S t) 0 ≡ None
+    → row.uses ≡ Some o → slice_get (holdings S t row) 0 ≡ Some (Use o)
 of_use S t row o m w u = by_parts S t row None None (Some o) _ _ m w u refl refl
 
-pub of_handle : (S : State) (t : ObjNo) (row : ThreadRow) (handle : Holding) → slice_get (slice_index_or S.synchronization.mutexes t.0 []) 0 ≡ None → slice_get (held_servers S t) 0 ≡ None → row.uses ≡ None → slice_get (held_handles (InThread t) 0 (table_of S t) ++ process_handles S t row.process) 0 ≡ Some handle → slice_get (holdings S t row) 0 ≡ Some handle
+pub of_handle : (S : State) (t : ObjNo) (row : ThreadRow) (handle : Holding)
+    → slice_get (slice_index_or S.synchronization.mutexes t.0 []) 0 ≡ None → slice_get (held_servers S t) 0 ≡ None
+    → row.uses ≡ None
+    → slice_get (held_handles (InThread t) 0 (table_of S t) ++ process_handles S t row.process) 0 ≡ Some handle
+    → slice_get (holdings S t row) 0 ≡ Some handle
 of_handle S t row handle m w u h = by_parts S t row None None None (Some handle) _ m w u h refl
 
-pub of_logon : (S : State) (t : ObjNo) (row : ThreadRow) (logon : ObjNo × ℕ) → slice_get (slice_index_or S.synchronization.mutexes t.0 []) 0 ≡ None → slice_get (held_servers S t) 0 ≡ None → row.uses ≡ None → slice_get (held_handles (InThread t) 0 (table_of S t) ++ process_handles S t row.process) 0 ≡ None → slice_get (logons_on S.synchronization.logons t) 0 ≡ Some logon → slice_get (holdings S t row) 0 ≡ Some (Logon logon.0 logon.1)
+pub of_logon : (S : State) (t : ObjNo) (row : ThreadRow) (logon : ObjNo × ℕ)
+    → slice_get (slice_index_or S.synchronization.mutexes t.0 []) 0 ≡ None → slice_get (held_servers S t) 0 ≡ None
+    → row.uses ≡ None
+    → slice_get (held_handles (InThread t) 0 (table_of S t) ++ process_handles S t row.process) 0 ≡ None
+    → slice_get (logons_on S.synchronization.logons t) 0 ≡ Some logon
+    → slice_get (holdings S t row) 0 ≡ Some (Logon logon.0 logon.1)
 of_logon S t row logon m w u h l = by_parts S t row None None None None (Some logon) m w u h l
 
-pub of_none : (S : State) (t : ObjNo) (row : ThreadRow) → slice_get (slice_index_or S.synchronization.mutexes t.0 []) 0 ≡ None → slice_get (held_servers S t) 0 ≡ None → row.uses ≡ None → slice_get (held_handles (InThread t) 0 (table_of S t) ++ process_handles S t row.process) 0 ≡ None → slice_get (logons_on S.synchronization.logons t) 0 ≡ None → slice_get (holdings S t row) 0 ≡ None
+pub of_none : (S : State) (t : ObjNo) (row : ThreadRow)
+    → slice_get (slice_index_or S.synchronization.mutexes t.0 []) 0 ≡ None → slice_get (held_servers S t) 0 ≡ None
+    → row.uses ≡ None
+    → slice_get (held_handles (InThread t) 0 (table_of S t) ++ process_handles S t row.process) 0 ≡ None
+    → slice_get (logons_on S.synchronization.logons t) 0 ≡ None → slice_get (holdings S t row) 0 ≡ None
 of_none S t row m w u h l = by_parts S t row None None None None None m w u h l
 
 -- the work of a live thread's closing servers, where there is any

@@ -74,7 +74,8 @@ made_created rows counts w p kept made = elim (cases_Bool (is_alive (row_at rows
 ]
 
 -- a table of no object, over words of which no place is created
-pub kept_new : (w : Words) (n : ℕ) → NoneCreated w → length w.stages ≡ length w.own → ((p : ℕ) → stage_at w p ≡ Fresh → own_at w p ≡ 0) → n ≡ min (length w.own) OBJECTS → AreKept [] (replicate n 0) w
+pub kept_new : (w : Words) (n : ℕ) → NoneCreated w → length w.stages ≡ length w.own
+    → ((p : ℕ) → stage_at w p ≡ Fresh → own_at w p ≡ 0) → n ≡ min (length w.own) OBJECTS → AreKept [] (replicate n 0) w
 kept_new w n none sizes uncounted room = record {
   counted = λ p. no_count n p ∙ sym (uncounted p (none p));
   roomy = λ p inside few. rw length-replicate (omega arith);
@@ -88,7 +89,8 @@ kept_new w n none sizes uncounted room = record {
 }
 
 -- where two lists have the same number, they have it still after both get one at a place
-same_set : (counts own : List ℕ) (o n : ℕ) → ((p : ℕ) → get_or counts p 0 ≡ get_or own p 0) → o < length counts → o < length own → (p : ℕ) → get_or (set counts o n) p 0 ≡ get_or (set own o n) p 0
+same_set : (counts own : List ℕ) (o n : ℕ) → ((p : ℕ) → get_or counts p 0 ≡ get_or own p 0) → o < length counts
+    → o < length own → (p : ℕ) → get_or (set counts o n) p 0 ≡ get_or (set own o n) p 0
 same_set counts own o n same within placed p = elim (cases_eq p o) [
   | inl here ↦ rw (here, get_or-set_same, get_or-set_same) refl
   | inr other ↦ rw (get_or-set_other, get_or-set_other) (same p)
@@ -109,7 +111,10 @@ made_cases rows row p inside = elim (cases_lt p (length rows)) [
 ]
 
 -- the name of a new object is no other's
-new_name : (rows : Rows) (kind : Kind) (name : List ℕ) (q : ℕ) (k : Kind) (n : List ℕ) → is_taken kind name rows ≡ false → is_session k ≡ false → IsTrue (has_name k n (Some (record { kind = kind; name = kept_name kind name; dead = false }))) → IsTrue (has_name k n (row_at rows q)) → ⊥
+new_name : (rows : Rows) (kind : Kind) (name : List ℕ) (q : ℕ) (k : Kind) (n : List ℕ) → is_taken kind name rows ≡ false
+    → is_session k ≡ false
+    → IsTrue (has_name k n (Some (record { kind = kind; name = kept_name kind name; dead = false })))
+    → IsTrue (has_name k n (row_at rows q)) → ⊥
 new_name rows kind name q k n untaken named new old =
     let row : ObjectRow = record { kind = kind; name = kept_name kind name; dead = false } in
     let same : kind ≡ k = has_name-kind k n row new in
@@ -122,13 +127,17 @@ new_name rows kind name q k n untaken named new old =
     cc
 
 -- where the name is free and fewer than 4,096 objects were made, the next number is answered
-pub answer_is : (rows : Rows) (kind : Kind) (name : List ℕ) → is_taken kind name rows ≡ false → length rows < OBJECTS → made_answer kind name rows ≡ MadeObject (record { 0 = length rows })
+pub answer_is : (rows : Rows) (kind : Kind) (name : List ℕ) → is_taken kind name rows ≡ false → length rows < OBJECTS
+    → made_answer kind name rows ≡ MadeObject (record { 0 = length rows })
 answer_is rows kind name untaken room =
     let below : (length rows == OBJECTS) ≡ false = search (rules, tests) in
     rw (untaken, below) refl
 
 -- one more object
-pub kept_made : (rows : Rows) (counts : List ℕ) (w : Words) (kind : Kind) (name : List ℕ) → AreKept rows counts w → length rows < OBJECTS → length rows < length w.own → is_taken kind name rows ≡ false → AreKept (rows ++ Some (record { kind = kind; name = kept_name kind name; dead = false }) ∷ []) (set counts (length rows) 1) (created w (length rows))
+pub kept_made : (rows : Rows) (counts : List ℕ) (w : Words) (kind : Kind) (name : List ℕ) → AreKept rows counts w
+    → length rows < OBJECTS → length rows < length w.own → is_taken kind name rows ≡ false
+    → AreKept (rows ++ Some (record { kind = kind; name = kept_name kind name; dead = false }) ∷ [])
+    (set counts (length rows) 1) (created w (length rows))
 kept_made rows counts w kind name kept room left untaken =
     let row : ObjectRow = record { kind = kind; name = kept_name kind name; dead = false } in
     let long = length-append rows (Some row ∷ []) in
@@ -160,17 +169,22 @@ kept_made rows counts w kind name kept room left untaken =
           elim (made_cases rows row p (named_made (rows ++ Some row ∷ []) p k n one)) [
             | inl old ↦ elim (made_cases rows row q (named_made (rows ++ Some row ∷ []) q k n other)) [
               | inl also ↦ kept.unique p q k n named (rw (row_at-made rows row p old) at one) (rw (row_at-made rows row q also) at other)
-              | inr new ↦ absurd (new_name rows kind name p k n untaken named (rw (row_at-new rows row q new) at other) (rw (row_at-made rows row p old) at one))
+              | inr new ↦
+                  absurd (new_name rows kind name p k n untaken named (rw (row_at-new rows row q new) at other)
+                  (rw (row_at-made rows row p old) at one))
             ]
             | inr new ↦ elim (made_cases rows row q (named_made (rows ++ Some row ∷ []) q k n other)) [
-              | inl old ↦ absurd (new_name rows kind name q k n untaken named (rw (row_at-new rows row p new) at one) (rw (row_at-made rows row q old) at other))
+              | inl old ↦
+                  absurd (new_name rows kind name q k n untaken named (rw (row_at-new rows row p new) at one)
+                  (rw (row_at-made rows row q old) at other))
               | inr also ↦ new ∙ sym also
             ]
           ];
     }
 
 -- another count of an object that was made
-pub kept_counted : (rows : Rows) (counts : List ℕ) (w : Words) (o n : ℕ) → AreKept rows counts w → o < length rows → AreKept rows (set counts o n) (record w { own = set w.own o n })
+pub kept_counted : (rows : Rows) (counts : List ℕ) (w : Words) (o n : ℕ) → AreKept rows counts w → o < length rows
+    → AreKept rows (set counts o n) (record w { own = set w.own o n })
 kept_counted rows counts w o n kept made = record {
   counted = same_set counts w.own o n kept.counted (omega (arith, kept.within)) (omega (arith, kept.placed));
   roomy = λ p inside few. rw length-set (kept.roomy p (rw length-set at inside) few);
@@ -228,14 +242,18 @@ row_at-other : (rows : Rows) (row : Option ObjectRow) (o p : ℕ) → p ≢ o �
 row_at-other rows row o p other = get_or-set_other rows o p row None other
 
 -- no name changes as a last reference goes
-named_closed : (rows : Rows) (o p : ℕ) (kind : Kind) (name : List ℕ) → o < length rows → has_name kind name (row_at (rows_closed Last rows o) p) ≡ has_name kind name (row_at rows p)
+named_closed : (rows : Rows) (o p : ℕ) (kind : Kind) (name : List ℕ) → o < length rows
+    → has_name kind name (row_at (rows_closed Last rows o) p) ≡ has_name kind name (row_at rows p)
 named_closed rows o p kind name inside = elim (cases_eq p o) [
   | inl here ↦ rw (here, row_at-closed rows o inside) (dead_named kind name (row_at rows o))
   | inr other ↦ ap (has_name kind name) (row_at-other rows (dead_row (row_at rows o)) o p other)
 ]
 
 -- the last reference of an object goes
-pub kept_last : (rows : Rows) (counts : List ℕ) (w : Words) (o n : ℕ) → AreKept rows counts w → IsTrue (is_there (row_at rows o)) → AreKept (rows_closed Last rows o) (set counts o n) (record w { own = set w.own o n; stages = set w.stages o Gone })
+pub kept_last : (rows : Rows) (counts : List ℕ) (w : Words) (o n : ℕ) → AreKept rows counts w
+    → IsTrue (is_there (row_at rows o))
+    → AreKept (rows_closed Last rows o) (set counts o n)
+    (record w { own = set w.own o n; stages = set w.stages o Gone })
 kept_last rows counts w o n kept there =
     let inside = there_made rows o there in
     let place = there_created rows counts w o kept there in
@@ -269,14 +287,16 @@ kept_last rows counts w o n kept there =
     }
 
 -- a row that went has no name
-named_swept : (rows : Rows) (o p : ℕ) (kind : Kind) (name : List ℕ) → o < length rows → IsTrue (has_name kind name (row_at (rows_swept rows o) p)) → IsTrue (has_name kind name (row_at rows p))
+named_swept : (rows : Rows) (o p : ℕ) (kind : Kind) (name : List ℕ) → o < length rows
+    → IsTrue (has_name kind name (row_at (rows_swept rows o) p)) → IsTrue (has_name kind name (row_at rows p))
 named_swept rows o p kind name inside named = elim (cases_eq p o) [
   | inl here ↦ let none = get_or-set_same rows o None None inside in absurd (cc (rw (here, none) at named))
   | inr other ↦ rw (row_at-other rows None o p other) at named
 ]
 
 -- a dead object's row goes
-pub kept_swept : (rows : Rows) (counts : List ℕ) (w : Words) (o : ℕ) → AreKept rows counts w → IsTrue (is_dead_row (row_at rows o)) → AreKept (rows_swept rows o) counts w
+pub kept_swept : (rows : Rows) (counts : List ℕ) (w : Words) (o : ℕ) → AreKept rows counts w
+    → IsTrue (is_dead_row (row_at rows o)) → AreKept (rows_swept rows o) counts w
 kept_swept rows counts w o kept was_dead =
     let inside = dead_made rows o was_dead in
     let none = get_or-set_same rows o None None inside in
@@ -300,7 +320,8 @@ kept_swept rows counts w o kept was_dead =
     }
 
 -- a call gives a place a count, and the words another meaning
-pub kept_counts : (rows : Rows) (counts : List ℕ) (w v : Words) (o n m : ℕ) → AreKept rows counts w → o < length rows → v.own ≡ set w.own o m → v.stages ≡ w.stages → n ≡ m → AreKept rows (set counts o n) v
+pub kept_counts : (rows : Rows) (counts : List ℕ) (w v : Words) (o n m : ℕ) → AreKept rows counts w → o < length rows
+    → v.own ≡ set w.own o m → v.stages ≡ w.stages → n ≡ m → AreKept rows (set counts o n) v
 kept_counts rows counts w v o n m kept made own stages same =
     rw same (kept_notes rows (set counts o m) (record w { own = set w.own o m }) v own stages (kept_counted rows counts w o m kept made))
 
@@ -317,19 +338,26 @@ created_made rows counts w p kept created inside = elim (cases_lt p (length rows
 ]
 
 -- the last reference goes, and the words have another meaning
-pub kept_dead : (rows : Rows) (counts : List ℕ) (w v : Words) (o n m : ℕ) → AreKept rows counts w → IsTrue (is_there (row_at rows o)) → v.own ≡ set w.own o m → v.stages ≡ set w.stages o Gone → n ≡ m → AreKept (rows_closed Last rows o) (set counts o n) v
+pub kept_dead : (rows : Rows) (counts : List ℕ) (w v : Words) (o n m : ℕ) → AreKept rows counts w
+    → IsTrue (is_there (row_at rows o)) → v.own ≡ set w.own o m → v.stages ≡ set w.stages o Gone → n ≡ m
+    → AreKept (rows_closed Last rows o) (set counts o n) v
 kept_dead rows counts w v o n m kept there own stages same =
-    rw same (kept_notes (rows_closed Last rows o) (set counts o m) (record w { own = set w.own o m; stages = set w.stages o Gone }) v own stages (kept_last rows counts w o m kept there))
+    rw same (kept_notes (rows_closed Last rows o) (set counts o m)
+    (record w { own = set w.own o m; stages = set w.stages o Gone }) v own stages
+    (kept_last rows counts w o m kept there))
 
 -- the place of a name is that of an object that was made
-pub named_place : (rows : Rows) (counts : List ℕ) (w : Words) (kind : Kind) (name : List ℕ) (r : Option ℕ) → AreKept rows counts w → r ≡ position (has_name kind name) rows → IfSome r (λ p. (p < length rows) × (p < OBJECTS))
+pub named_place : (rows : Rows) (counts : List ℕ) (w : Words) (kind : Kind) (name : List ℕ) (r : Option ℕ)
+    → AreKept rows counts w → r ≡ position (has_name kind name) rows → IfSome r (λ p. (p < length rows) × (p < OBJECTS))
 named_place rows counts w kind name None kept is = tt
 named_place rows counts w kind name (Some p) kept is =
     let found = position-Some (has_name kind name) rows p None (sym is) in
     (found.0, omega (arith, kept.limited, found.0))
 
 -- and no other object has the name
-pub named_alone : (rows : Rows) (counts : List ℕ) (w : Words) (kind : Kind) (name : List ℕ) (r : Option ℕ) → AreKept rows counts w → is_session kind ≡ false → r ≡ position (has_name kind name) rows → IfSome r (λ p. (q : ℕ) → IsTrue (has_name kind name (row_at rows q)) → q ≡ p)
+pub named_alone : (rows : Rows) (counts : List ℕ) (w : Words) (kind : Kind) (name : List ℕ) (r : Option ℕ)
+    → AreKept rows counts w → is_session kind ≡ false → r ≡ position (has_name kind name) rows
+    → IfSome r (λ p. (q : ℕ) → IsTrue (has_name kind name (row_at rows q)) → q ≡ p)
 named_alone rows counts w kind name None kept named is = tt
 named_alone rows counts w kind name (Some p) kept named is =
     let found = position-Some (has_name kind name) rows p None (sym is) in

@@ -17,7 +17,10 @@ use Rattle.ref_words.specs.declared.answer.Closed.TheVariants.{Last}
 use Rattle.objects.proofs.Order.{listed_alike, Rows, back, is_named-made, listed_made}
 
 -- in a list with one more at a place, each place has what stood there, the new one, or what stood before it
-insert_cases : (xs : List ℕ) (place y k : ℕ) → place ≤ length xs → k < length (insert xs place y) → ((k < place) × (slice_index (insert xs place y) k ≡ slice_index xs k)) ⊎ (((k ≡ place) × (slice_index (insert xs place y) k ≡ y)) ⊎ ((place < k) × (k - 1 < length xs) × (slice_index (insert xs place y) k ≡ slice_index xs (k - 1))))
+insert_cases : (xs : List ℕ) (place y k : ℕ) → place ≤ length xs → k < length (insert xs place y)
+    → ((k < place) × (slice_index (insert xs place y) k ≡ slice_index xs k))
+    ⊎ (((k ≡ place) × (slice_index (insert xs place y) k ≡ y))
+    ⊎ ((place < k) × (k - 1 < length xs) × (slice_index (insert xs place y) k ≡ slice_index xs (k - 1))))
 insert_cases xs place y k within inside = elim (cases_lt k place) [
   | inl below ↦ inl (below, get_or-insert_below xs place y 0 k below within)
   | inr above ↦ elim (cases_eq k place) [
@@ -37,20 +40,27 @@ row_new : (rows : Rows) (row : Option ObjectRow) → row_at (rows ++ row ∷ [])
 row_new rows row = get_or_push rows row None (length rows) refl
 
 -- the key at a place stays while a row is added
-key_kept : (rows : Rows) (numbers : List ℕ) (row : Option ObjectRow) (i : ℕ) → AreListed rows numbers → i < length numbers → key_of (row_at (rows ++ row ∷ []) (slice_index numbers i)) ≡ key_at rows numbers i
+key_kept : (rows : Rows) (numbers : List ℕ) (row : Option ObjectRow) (i : ℕ) → AreListed rows numbers
+    → i < length numbers → key_of (row_at (rows ++ row ∷ []) (slice_index numbers i)) ≡ key_at rows numbers i
 key_kept rows numbers row i listed inside = ap key_of (row_kept rows row (slice_index numbers i) (listed_made rows numbers i listed inside))
 
-named_kept : (rows : Rows) (numbers : List ℕ) (row : Option ObjectRow) (i : ℕ) → AreListed rows numbers → i < length numbers → IsTrue (is_named (row_at (rows ++ row ∷ []) (slice_index numbers i)))
+named_kept : (rows : Rows) (numbers : List ℕ) (row : Option ObjectRow) (i : ℕ) → AreListed rows numbers
+    → i < length numbers → IsTrue (is_named (row_at (rows ++ row ∷ []) (slice_index numbers i)))
 named_kept rows numbers row i listed inside = rw (row_kept rows row (slice_index numbers i) (listed_made rows numbers i listed inside)) (listed.named i inside)
 
 -- an object without a name is made
-listed_session : (rows : Rows) (numbers : List ℕ) (row : Option ObjectRow) → AreListed rows numbers → is_named row ≡ false → AreListed (rows ++ row ∷ []) numbers
+listed_session : (rows : Rows) (numbers : List ℕ) (row : Option ObjectRow) → AreListed rows numbers
+    → is_named row ≡ false → AreListed (rows ++ row ∷ []) numbers
 listed_session rows numbers row listed unnamed =
     let long = length-append rows (row ∷ []) in
     record {
       few = omega (arith, listed.few, long);
       named = λ i inside. named_kept rows numbers row i listed inside;
-      rising = λ i j less inside. rw (key_kept rows numbers row i listed (omega arith), key_kept rows numbers row j listed inside) (listed.rising i j less inside);
+      rising =
+          λ i j less inside. rw (
+            key_kept rows numbers row i listed (omega arith),
+            key_kept rows numbers row j listed inside,
+          ) (listed.rising i j less inside);
       complete = λ o is. elim (cases_lt o (length rows)) [
         | inl old ↦ listed.complete o (rw (row_kept rows row o old) at is)
         | inr past ↦
@@ -61,7 +71,9 @@ listed_session rows numbers row listed unnamed =
     }
 
 -- an object with a name is made
-listed_new : (rows : Rows) (numbers : List ℕ) (row : ObjectRow) (place : ℕ) → AreListed rows numbers → IsTrue (is_named (Some row)) → IsGap rows numbers (key_of (Some row)) place → AreListed (rows ++ Some row ∷ []) (insert numbers place (length rows))
+listed_new : (rows : Rows) (numbers : List ℕ) (row : ObjectRow) (place : ℕ) → AreListed rows numbers
+    → IsTrue (is_named (Some row)) → IsGap rows numbers (key_of (Some row)) place
+    → AreListed (rows ++ Some row ∷ []) (insert numbers place (length rows))
 listed_new rows numbers row place listed is_new gap =
     let long = length-append rows (Some row ∷ []) in
     let longer = length-insert numbers place (length rows) gap.within in
@@ -79,21 +91,34 @@ listed_new rows numbers row place listed is_new gap =
         | inl (below, same) ↦
             let first = key_kept rows numbers (Some row) i listed (omega (arith, gap.within)) in
             elim (cases j gap.within inside) [
-              | inl (below_j, same_j) ↦ rw (same, same_j, first, key_kept rows numbers (Some row) j listed (omega (arith, gap.within))) (listed.rising i j less (omega (arith, gap.within)))
+              | inl (below_j, same_j) ↦
+                  rw (same, same_j, first, key_kept rows numbers (Some row) j listed (omega (arith, gap.within)))
+                  (listed.rising i j less (omega (arith, gap.within)))
               | inr (inl (here, is)) ↦ rw (same, is, first, new) (gap.before i below)
-              | inr (inr (above, old, same_j)) ↦ rw (same, same_j, first, key_kept rows numbers (Some row) (j - 1) listed old) (listed.rising i (j - 1) (omega arith) old)
+              | inr (inr (above, old, same_j)) ↦
+                  rw (same, same_j, first, key_kept rows numbers (Some row) (j - 1) listed old)
+                  (listed.rising i (j - 1) (omega arith) old)
             ]
         | inr (inl (here, is)) ↦
             elim (cases j gap.within inside) [
               | inl (below_j, same_j) ↦ absurd (omega arith)
               | inr (inl (here_j, is_j)) ↦ absurd (omega arith)
-              | inr (inr (above, old, same_j)) ↦ rw (is, same_j, new, key_kept rows numbers (Some row) (j - 1) listed old) (back (key_at rows numbers (j - 1)) (key_of (Some row)) (gap.behind (j - 1) (omega arith) old))
+              | inr (inr (above, old, same_j)) ↦
+                  rw (is, same_j, new, key_kept rows numbers (Some row) (j - 1) listed old)
+                  (back (key_at rows numbers (j - 1)) (key_of (Some row)) (gap.behind (j - 1) (omega arith) old))
             ]
         | inr (inr (above, old, same)) ↦
             elim (cases j gap.within inside) [
               | inl (below_j, same_j) ↦ absurd (omega arith)
               | inr (inl (here_j, is_j)) ↦ absurd (omega arith)
-              | inr (inr (above_j, old_j, same_j)) ↦ rw (same, same_j, key_kept rows numbers (Some row) (i - 1) listed old, key_kept rows numbers (Some row) (j - 1) listed old_j) (listed.rising (i - 1) (j - 1) (omega arith) old_j)
+              | inr (inr (above_j, old_j, same_j)) ↦
+                  rw (
+                    same,
+                    same_j,
+                    key_kept rows numbers (Some row) (i - 1) listed old,
+                    key_kept rows numbers (Some row) (j - 1) listed old_j,
+                  )
+                  (listed.rising (i - 1) (j - 1) (omega arith) old_j)
             ]
       ];
       complete = λ o is. elim (cases_lt o (length rows)) [
@@ -111,16 +136,23 @@ listed_new rows numbers row place listed is_new gap =
     }
 
 -- an object is made, and listed unless it is a session
-pub listed_made_new : (rows : Rows) (numbers : List ℕ) (kind : Kind) (name : List ℕ) (place : ℕ) → AreListed rows numbers → is_session kind ≡ false → IsGap rows numbers (record { kind = kind; name = name }) place → AreListed (rows ++ Some (record { kind = kind; name = kept_name kind name; dead = false }) ∷ []) (insert numbers place (length rows))
+pub listed_made_new : (rows : Rows) (numbers : List ℕ) (kind : Kind) (name : List ℕ) (place : ℕ)
+    → AreListed rows numbers → is_session kind ≡ false → IsGap rows numbers (record { kind = kind; name = name }) place
+    → AreListed (rows ++ Some (record { kind = kind; name = kept_name kind name; dead = false }) ∷ [])
+    (insert numbers place (length rows))
 listed_made_new rows numbers kind name place listed named gap =
     rw named (listed_new rows numbers (record { kind = kind; name = name; dead = false }) place listed (ap not named) gap)
 
-pub listed_made_session : (rows : Rows) (numbers : List ℕ) (kind : Kind) (name : List ℕ) → AreListed rows numbers → is_session kind ≡ true → AreListed (rows ++ Some (record { kind = kind; name = kept_name kind name; dead = false }) ∷ []) numbers
+pub listed_made_session : (rows : Rows) (numbers : List ℕ) (kind : Kind) (name : List ℕ) → AreListed rows numbers
+    → is_session kind ≡ true
+    → AreListed (rows ++ Some (record { kind = kind; name = kept_name kind name; dead = false }) ∷ []) numbers
 listed_made_session rows numbers kind name listed session =
     listed_session rows numbers (Some (record { kind = kind; name = kept_name kind name; dead = false })) listed (ap not session)
 
 -- in a list without one of its places, each place has what stood there or behind it
-remove_cases : (xs : List ℕ) (place k : ℕ) → place < length xs → k < length (remove xs place) → ((k < place) × (slice_index (remove xs place) k ≡ slice_index xs k)) ⊎ ((place ≤ k) × (k + 1 < length xs) × (slice_index (remove xs place) k ≡ slice_index xs (k + 1)))
+remove_cases : (xs : List ℕ) (place k : ℕ) → place < length xs → k < length (remove xs place)
+    → ((k < place) × (slice_index (remove xs place) k ≡ slice_index xs k))
+    ⊎ ((place ≤ k) × (k + 1 < length xs) × (slice_index (remove xs place) k ≡ slice_index xs (k + 1)))
 remove_cases xs place k within inside = elim (cases_lt k place) [
   | inl below ↦ inl (below, get_or-remove_below xs place 0 k below within)
   | inr above ↦ inr (above, omega (arith, length-remove xs place within), get_or-remove_above xs place 0 k above within)
@@ -138,10 +170,13 @@ swept_named rows o p inside named = elim (cases_eq p o) [
 ]
 
 -- an object without a name is swept
-pub listed_swept_session : (rows : Rows) (numbers : List ℕ) (o : ℕ) → AreListed rows numbers → o < length rows → is_named (row_at rows o) ≡ false → AreListed (rows_swept rows o) numbers
+pub listed_swept_session : (rows : Rows) (numbers : List ℕ) (o : ℕ) → AreListed rows numbers → o < length rows
+    → is_named (row_at rows o) ≡ false → AreListed (rows_swept rows o) numbers
 listed_swept_session rows numbers o listed made unnamed =
     let other : (i : ℕ) → i < length numbers → slice_index numbers i ≢ o = λ i inside is. absurd (cc (rw (is, unnamed) at (listed.named i inside))) in
-    let row : (i : ℕ) → i < length numbers → row_at (rows_swept rows o) (slice_index numbers i) ≡ row_at rows (slice_index numbers i) = λ i inside. row_other rows o (slice_index numbers i) (other i inside) in
+    let row : (i : ℕ) → i < length numbers → row_at (rows_swept rows o) (slice_index numbers i)
+    ≡ row_at rows (slice_index numbers i) =
+    λ i inside. row_other rows o (slice_index numbers i) (other i inside) in
     record {
       few = rw length-set listed.few;
       named = λ i inside. rw (row i inside) (listed.named i inside);
@@ -150,10 +185,14 @@ listed_swept_session rows numbers o listed made unnamed =
     }
 
 -- an object with a name is swept
-listed_swept_named : (rows : Rows) (numbers : List ℕ) (o place : ℕ) → AreListed rows numbers → o < length rows → place < length numbers → slice_index numbers place ≡ o → AreListed (rows_swept rows o) (remove numbers place)
+listed_swept_named : (rows : Rows) (numbers : List ℕ) (o place : ℕ) → AreListed rows numbers → o < length rows
+    → place < length numbers → slice_index numbers place ≡ o → AreListed (rows_swept rows o) (remove numbers place)
 listed_swept_named rows numbers o place listed made within is =
     let shorter = length-remove numbers place within in
-    let row : (i : ℕ) → i < length numbers → i ≢ place → row_at (rows_swept rows o) (slice_index numbers i) ≡ row_at rows (slice_index numbers i) = λ i inside other. row_other rows o (slice_index numbers i) (other_number rows numbers o place i listed within is inside other) in
+    let row : (i : ℕ) → i < length numbers → i ≢ place → row_at (rows_swept rows o) (slice_index numbers i)
+    ≡ row_at rows (slice_index numbers i) =
+    λ i inside other. row_other rows o (slice_index numbers i)
+    (other_number rows numbers o place i listed within is inside other) in
     let cases = remove_cases numbers place in
     record {
       few = rw length-set (omega (arith, listed.few, shorter));
@@ -163,12 +202,18 @@ listed_swept_named rows numbers o place listed made within is =
       ];
       rising = λ i j less inside. elim (cases i within (omega arith)) [
         | inl (below, same) ↦ elim (cases j within inside) [
-          | inl (below_j, same_j) ↦ rw (same, same_j, row i (omega arith) (omega arith), row j (omega arith) (omega arith)) (listed.rising i j less (omega arith))
-          | inr (above_j, old_j, same_j) ↦ rw (same, same_j, row i (omega arith) (omega arith), row (j + 1) old_j (omega arith)) (listed.rising i (j + 1) (omega arith) old_j)
+          | inl (below_j, same_j) ↦
+              rw (same, same_j, row i (omega arith) (omega arith), row j (omega arith) (omega arith))
+              (listed.rising i j less (omega arith))
+          | inr (above_j, old_j, same_j) ↦
+              rw (same, same_j, row i (omega arith) (omega arith), row (j + 1) old_j (omega arith))
+              (listed.rising i (j + 1) (omega arith) old_j)
         ]
         | inr (above, old, same) ↦ elim (cases j within inside) [
           | inl (below_j, same_j) ↦ absurd (omega arith)
-          | inr (above_j, old_j, same_j) ↦ rw (same, same_j, row (i + 1) old (omega arith), row (j + 1) old_j (omega arith)) (listed.rising (i + 1) (j + 1) (omega arith) old_j)
+          | inr (above_j, old_j, same_j) ↦
+              rw (same, same_j, row (i + 1) old (omega arith), row (j + 1) old_j (omega arith))
+              (listed.rising (i + 1) (j + 1) (omega arith) old_j)
         ]
       ];
       complete = λ p named.
@@ -179,14 +224,21 @@ listed_swept_named rows numbers o place listed made within is =
             | inr other ↦ elim (cases_lt was.0 place) [
               | inl below ↦ (was.0, omega (arith, was.1, shorter), get_or-remove_below numbers place 0 was.0 below within ∙ was.2)
               | inr above ↦
-                  let again : (was.0 - 1) + 1 ≡ was.0 = omega arith in
-                  (was.0 - 1, omega (arith, was.1, shorter), get_or-remove_above numbers place 0 (was.0 - 1) (omega arith) within ∙ ap (slice_index numbers) again ∙ was.2)
+                  let again : (was.0 - 1) + 1 ≡ was.0 = omega arith in (
+                    was.0 - 1,
+                    omega (arith, was.1, shorter),
+                    get_or-remove_above numbers place 0 (was.0 - 1) (omega arith) within ∙ ap (slice_index numbers) again
+                        ∙ was.2,
+                  )
             ]
           ];
     }
 
 -- the object at the place of the key of its row is swept
-pub listed_swept : (rows : Rows) (numbers : List ℕ) (o place : ℕ) → AreListed rows numbers → IsTrue (is_named (row_at rows o)) → place < length numbers → key_order (key_at rows numbers place) (key_of (row_at rows o)) ≡ Equal → AreListed (rows_swept rows o) (remove numbers place)
+pub listed_swept : (rows : Rows) (numbers : List ℕ) (o place : ℕ) → AreListed rows numbers
+    → IsTrue (is_named (row_at rows o)) → place < length numbers
+    → key_order (key_at rows numbers place) (key_of (row_at rows o)) ≡ Equal
+    → AreListed (rows_swept rows o) (remove numbers place)
 listed_swept rows numbers o place listed named within same =
     listed_swept_named rows numbers o place listed (is_named-made rows o named) within (place_is rows numbers o place listed named within same)
 
@@ -203,7 +255,8 @@ dead_key (Some row) = refl
 pub listed_closed : (rows : Rows) (numbers : List ℕ) (o : ℕ) → AreListed rows numbers → o < length rows → AreListed (rows_closed Last rows o) numbers
 listed_closed rows numbers o listed made =
     let at : row_at (rows_closed Last rows o) o ≡ dead_row (row_at rows o) = get_or-set_same rows o (dead_row (row_at rows o)) None made in
-    let other : (p : ℕ) → p ≢ o → row_at (rows_closed Last rows o) p ≡ row_at rows p = λ p different. get_or-set_other rows o p (dead_row (row_at rows o)) None different in
+    let other : (p : ℕ) → p ≢ o → row_at (rows_closed Last rows o) p ≡ row_at rows p =
+    λ p different. get_or-set_other rows o p (dead_row (row_at rows o)) None different in
     listed_alike rows (rows_closed Last rows o) numbers listed (rw length-set (omega arith)) (λ p. elim (cases_eq p o) [
       | inl here ↦ rw (here, at) (dead_is_named (row_at rows o))
       | inr different ↦ ap is_named (other p different)

@@ -36,8 +36,12 @@ pub irreflexive : (key : Key) → key_order key key ≡ Less → ⊥
 irreflexive key less = let same = tied_itself key_order_total key in absurd (cc)
 
 -- an object has a name exactly where their keys are equal
-pub has_name-order : (kind : Kind) (name : List ℕ) (row : ObjectRow) → has_name kind name (Some row) ≡ is_eq (key_order (key_of (Some row)) (record { kind = kind; name = name }))
-has_name-order kind name row = both_tied (kind_number row.kind == kind_number kind) (bytes_eq row.name name) (nat_cmp (kind_number row.kind) (kind_number kind)) (slice_cmp nat_cmp row.name name) (unsigned_ties (kind_number row.kind) (kind_number kind)) (sym (is_eq-slice_cmp row.name name))
+pub has_name-order : (kind : Kind) (name : List ℕ) (row : ObjectRow)
+    → has_name kind name (Some row) ≡ is_eq (key_order (key_of (Some row)) (record { kind = kind; name = name }))
+has_name-order kind name row =
+    both_tied (kind_number row.kind == kind_number kind) (bytes_eq row.name name)
+    (nat_cmp (kind_number row.kind) (kind_number kind)) (slice_cmp nat_cmp row.name name)
+    (unsigned_ties (kind_number row.kind) (kind_number kind)) (sym (is_eq-slice_cmp row.name name))
 
 -- an object with a name was made
 pub is_named-made : (rows : Rows) (o : ℕ) → IsTrue (is_named (row_at rows o)) → o < length rows
@@ -51,23 +55,30 @@ pub listed_made : (rows : Rows) (numbers : List ℕ) (i : ℕ) → AreListed row
 listed_made rows numbers i listed inside = is_named-made rows (slice_index numbers i) (listed.named i inside)
 
 -- a step of the search: what stands before a lesser key is less, too
-pub less_before : (rows : Rows) (numbers : List ℕ) (key : Key) (middle : ℕ) → AreListed rows numbers → middle < length numbers → key_order (key_at rows numbers middle) key ≡ Less → (i : ℕ) → i < middle + 1 → key_order (key_at rows numbers i) key ≡ Less
+pub less_before : (rows : Rows) (numbers : List ℕ) (key : Key) (middle : ℕ) → AreListed rows numbers
+    → middle < length numbers → key_order (key_at rows numbers middle) key ≡ Less → (i : ℕ) → i < middle + 1
+    → key_order (key_at rows numbers i) key ≡ Less
 less_before rows numbers key middle listed inside less i below = elim (cases_eq i middle) [
   | inl here ↦ rw here less
   | inr other ↦ key_order_total.trans (key_at rows numbers i) (key_at rows numbers middle) key (listed.rising i middle (omega arith) inside) less
 ]
 
 -- and what stands behind a greater one is greater, too
-pub greater_behind : (rows : Rows) (numbers : List ℕ) (key : Key) (middle : ℕ) → AreListed rows numbers → key_order (key_at rows numbers middle) key ≡ Greater → (i : ℕ) → middle ≤ i → i < length numbers → key_order (key_at rows numbers i) key ≡ Greater
+pub greater_behind : (rows : Rows) (numbers : List ℕ) (key : Key) (middle : ℕ) → AreListed rows numbers
+    → key_order (key_at rows numbers middle) key ≡ Greater → (i : ℕ) → middle ≤ i → i < length numbers
+    → key_order (key_at rows numbers i) key ≡ Greater
 greater_behind rows numbers key middle listed greater i above inside = elim (cases_eq i middle) [
   | inl here ↦ rw here greater
   | inr other ↦
       let less = back (key_at rows numbers middle) key greater in
-      turned key (key_at rows numbers i) (key_order_total.trans key (key_at rows numbers middle) (key_at rows numbers i) less (listed.rising middle i (omega arith) inside))
+      turned key (key_at rows numbers i) (key_order_total.trans key (key_at rows numbers middle)
+      (key_at rows numbers i) less (listed.rising middle i (omega arith) inside))
 ]
 
 -- where two tables have the same keys at the same numbers, they list the same
-pub listed_alike : (rows others : Rows) (numbers : List ℕ) → AreListed rows numbers → length rows ≤ length others → ((o : ℕ) → is_named (row_at others o) ≡ is_named (row_at rows o)) → ((o : ℕ) → key_of (row_at others o) ≡ key_of (row_at rows o)) → AreListed others numbers
+pub listed_alike : (rows others : Rows) (numbers : List ℕ) → AreListed rows numbers → length rows ≤ length others
+    → ((o : ℕ) → is_named (row_at others o) ≡ is_named (row_at rows o))
+    → ((o : ℕ) → key_of (row_at others o) ≡ key_of (row_at rows o)) → AreListed others numbers
 listed_alike rows others numbers listed long named key = record {
   few = omega (arith, listed.few);
   named = λ i inside. rw named (listed.named i inside);
@@ -76,7 +87,9 @@ listed_alike rows others numbers listed long named key = record {
 }
 
 -- the row that is read by the number at a place
-pub row_read : (rows : Rows) (numbers : List ℕ) (place n : ℕ) (row : Option ObjectRow) → AreListed rows numbers → place < length numbers → n ≡ get_or numbers place n → row ≡ get_or rows n row → row ≡ row_at rows (slice_index numbers place)
+pub row_read : (rows : Rows) (numbers : List ℕ) (place n : ℕ) (row : Option ObjectRow) → AreListed rows numbers
+    → place < length numbers → n ≡ get_or numbers place n → row ≡ get_or rows n row
+    → row ≡ row_at rows (slice_index numbers place)
 row_read rows numbers place n row listed inside number read =
     let is : n ≡ slice_index numbers place = get_or_read numbers place n inside number 0 in
     let made : n < length rows = rw is (listed_made rows numbers place listed inside) in

@@ -21,4 +21,5 @@ pub record AreKept (rows : List (Option ObjectRow)) (counts : List ℕ) (w : Wor
   pub fresh : (p : ℕ) → length rows ≤ p → p < length w.own → IsFresh w p
   pub in_use : (p : ℕ) → IsTrue (is_alive (row_at rows p)) → stage_at w p ≡ InUse
   pub gone : (p : ℕ) → p < length rows → is_alive (row_at rows p) ≡ false → stage_at w p ≡ Gone
-  pub unique : (p q : ℕ) (kind : Kind) (name : List ℕ) → is_session kind ≡ false → IsTrue (has_name kind name (row_at rows p)) → IsTrue (has_name kind name (row_at rows q)) → p ≡ q
+  pub unique : (p q : ℕ) (kind : Kind) (name : List ℕ) → is_session kind ≡ false
+      → IsTrue (has_name kind name (row_at rows p)) → IsTrue (has_name kind name (row_at rows q)) → p ≡ q

@@ -55,4 +55,6 @@ IsPlace rows numbers key (Err place) = IsGap rows numbers key place
 -- the place where a new object is listed: none exactly where its name is taken, and any for a session
 abbrev pub IsNewPlace : List (Option ObjectRow) → List ℕ → Kind → List ℕ → Option ℕ → Type 0
 IsNewPlace rows numbers kind name None = is_taken kind name rows ≡ true
-IsNewPlace rows numbers kind name (Some place) = (is_taken kind name rows ≡ false) × (is_session kind ≡ false → IsGap rows numbers (record { kind = kind; name = name }) place)
+IsNewPlace rows numbers kind name (Some place) =
+    (is_taken kind name rows ≡ false) × (is_session kind ≡ false
+    → IsGap rows numbers (record { kind = kind; name = name }) place)

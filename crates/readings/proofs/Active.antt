@@ -17,7 +17,9 @@ live_some (Queue queue) (Some dfc) own = refl
 live_some (Declared k) call own = refl
 
 -- what is owed comes to it, and the return
-pub task_some : (returning : Bool) (instr : Option Instr) (owed : Option Owed) (own : Option Task) → (is_some own || is_some owed || returning && is_some instr) ≡ is_some (return_or returning instr (pay_or owed own))
+pub task_some : (returning : Bool) (instr : Option Instr) (owed : Option Owed) (own : Option Task)
+    → (is_some own || is_some owed || returning && is_some instr)
+    ≡ is_some (return_or returning instr (pay_or owed own))
 task_some true None None None = refl
 task_some true None None (Some own) = refl
 task_some true None (Some what) None = refl

@@ -17,4 +17,6 @@ small_first (message ∷ rest) small =
     in small 0 message inside
 
 pub small_next : (rows : MessageRows) (server : ObjNo) → AreSmallNumbers rows.outstanding → IfSome (next_of rows server) (λ m. m.0 < 2147483648)
-small_next rows server small = small_first (filter (waits_at server.0) rows.outstanding) (All-filter (waits_at server.0) (λ (message : Message). message.number.0 < 2147483648) rows.outstanding small)
+small_next rows server small =
+    small_first (filter (waits_at server.0) rows.outstanding)
+    (All-filter (waits_at server.0) (λ (message : Message). message.number.0 < 2147483648) rows.outstanding small)

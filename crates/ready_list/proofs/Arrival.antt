@@ -37,8 +37,12 @@ added_last list r t p low are = record {
   sized = rw length-set are.sized;
   each = λ q within. elim (cases_eq q p) [
     | inl here ↦ let inside : p < length r.queues = omega (arith, are.sized) in
-        rw (here, get_or-set_same) (ap (λ (q : List ObjNo). q ++ t ∷ []) (are.each p low) ∙ sym (queue_of-append p list ((t, p) ∷ []) ∙ ap (λ (q : List ObjNo). queue_of p list ++ q) (queue_of-own t p)))
-    | inr there ↦ rw get_or-set_other (are.each q within ∙ sym (queue_of-append q list ((t, p) ∷ []) ∙ ap (λ (z : List ObjNo). queue_of q list ++ z) (queue_of-other t p q there) ∙ append-nil (queue_of q list)))
+        rw (here, get_or-set_same) (ap (λ (q : List ObjNo). q ++ t ∷ []) (are.each p low)
+        ∙ sym (queue_of-append p list ((t, p) ∷ []) ∙ ap (λ (q : List ObjNo). queue_of p list ++ q) (queue_of-own t p)))
+    | inr there ↦
+        rw get_or-set_other (are.each q within
+        ∙ sym (queue_of-append q list ((t, p) ∷ [])
+        ∙ ap (λ (z : List ObjNo). queue_of q list ++ z) (queue_of-other t p q there) ∙ append-nil (queue_of q list)))
   ];
 }
 
@@ -146,9 +150,12 @@ picked_by list r None are none =
     are.each p (omega (arith, are.sized)) ∙ ap (queue_of p) (none_greatest (λ x. x.1) list none)))
 picked_by list r (Some x) are some =
     let is = is_first_of_greatest (λ x. x.1) list x some in
-    let low : x.1 < 64 = rw (get_or_from_slice_get list is.place x x is.at) at (All-get_or (λ (y : ObjNo × ℕ). y.1 < 64) list is.place x (slice_get_within list is.place x is.at) are.ranged) in
+    let low : x.1 < 64 = rw (get_or_from_slice_get list is.place x x is.at) at
+    (All-get_or (λ (y : ObjNo × ℕ). y.1 < 64) list is.place x (slice_get_within list is.place x is.at) are.ranged) in
     let inside : x.1 < length r.queues = omega (arith, are.sized) in
-    let own : slice_get (queue_of x.1 list) 0 ≡ Some x.0 = slice_get-map (λ (y : ObjNo × ℕ). y.0) (filter (λ y. eqb y.1 x.1) list) 0 ∙ ap (option_map (λ (y : ObjNo × ℕ). y.0)) is.first in
+    let own : slice_get (queue_of x.1 list) 0
+    ≡ Some x.0 = slice_get-map (λ (y : ObjNo × ℕ). y.0) (filter (λ y. eqb y.1 x.1) list) 0
+    ∙ ap (option_map (λ (y : ObjNo × ℕ). y.0)) is.first in
     let first : Some x.0 ≡ slice_get (get_or r.queues x.1 []) 0 = sym (ap (λ (q : List ObjNo). slice_get q 0) (are.each x.1 low) ∙ own) in
     sym (found_highest r.queues x.1 (Some x.0) inside (highest_empty (drop (x.1 + 1) r.queues) (empty_above list r x.1 are is.greatest)) first refl)
 
@@ -206,7 +213,8 @@ ready_listed list r t are =
     list_any_at (holds t) r.queues some.0 [] (omega (arith, are.sized, some.1)) (ap (holds t) (are.each some.0 some.1) ∙ some.2))
 
 -- a thread that is listed with one priority alone is ready at that priority
-pub priority_is : (list : Listed) (r : Ready) (t : ObjNo) (p : ℕ) → AreQueuesOf list r → p < 64 → holds t (queue_of p list) ≡ true → ((q : ℕ) → holds t (queue_of q list) ≡ true → q ≡ p) → priority_of r t ≡ Some p
+pub priority_is : (list : Listed) (r : Ready) (t : ObjNo) (p : ℕ) → AreQueuesOf list r → p < 64
+    → holds t (queue_of p list) ≡ true → ((q : ℕ) → holds t (queue_of q list) ≡ true → q ≡ p) → priority_of r t ≡ Some p
 priority_is list r t p are low held alone =
     let inside : p < length r.queues = omega (arith, are.sized) in
     let before = λ (k : ℕ) (below : k < p). elim (cases_Bool (holds t (queue_of k list))) as (λ _. holds t (get_or r.queues k []) ≡ false) [

@@ -6,7 +6,9 @@ use Rattle.sym_base.specs.declared.number.ObjNo.{ObjNo}
 use Rattle.ready_list.specs.Ready.{or_else, first_of_highest}
 
 -- one queue more
-pub highest_more : (queues : List (List ObjNo)) (p : ℕ) → p < length queues → first_of_highest (drop p queues) ≡ or_else (first_of_highest (drop (p + 1) queues)) (slice_get (get_or queues p []) 0)
+pub highest_more : (queues : List (List ObjNo)) (p : ℕ) → p < length queues
+    → first_of_highest (drop p queues) ≡ or_else (first_of_highest (drop (p + 1) queues))
+    (slice_get (get_or queues p []) 0)
 highest_more queues p inside = rw (add-one, drop-cons queues p []) refl
 
 -- the first of the higher queues is the first of all
@@ -40,7 +42,9 @@ empty_highest (queue ∷ queues) none =
     All-cons (λ (q : List ObjNo). q ≡ []) queue queues (empty_queue queue both.1) (empty_highest queues both.0)
 
 -- the first of a queue above which all are empty is the first of the highest
-pub found_highest : (queues : List (List ObjNo)) (p : ℕ) (first : Option ObjNo) → p < length queues → first_of_highest (drop (p + 1) queues) ≡ None → first ≡ slice_get (get_or queues p []) 0 → is_some first ≡ true → first ≡ first_of_highest queues
+pub found_highest : (queues : List (List ObjNo)) (p : ℕ) (first : Option ObjNo) → p < length queues
+    → first_of_highest (drop (p + 1) queues) ≡ None → first ≡ slice_get (get_or queues p []) 0 → is_some first ≡ true
+    → first ≡ first_of_highest queues
 found_highest queues p None inside above is some = absurd (cc)
 found_highest queues p (Some t) inside above is some =
     let here : first_of_highest (drop p queues) ≡ Some t = highest_more queues p inside ∙ rw (above, ← is) refl in

@@ -14,7 +14,10 @@ use Rattle.ready_list.specs.Kept.{AreKept, mark}
 
 module _ (threads : ℕ) (links : Linked) (priorities : List ℕ) (mask : ℕ) (kept : AreKept threads links priorities mask) where
   -- another list of a priority, with priorities and bits to match
-  with_list_kept : (p : ℕ) → p < 64 → (list priorities' : List ℕ) (mask' : ℕ) → AreOwned (with_list links p list) priorities' → bit_at mask' p ≡ mark list → ((q : ℕ) → q < 64 → q ≢ p → bit_at mask' q ≡ bit_at mask q) → AreKept threads (with_list links p list) priorities' mask'
+  with_list_kept : (p : ℕ) → p < 64 → (list priorities' : List ℕ) (mask' : ℕ)
+      → AreOwned (with_list links p list) priorities' → bit_at mask' p ≡ mark list
+      → ((q : ℕ) → q < 64 → q ≢ p → bit_at mask' q ≡ bit_at mask q)
+      → AreKept threads (with_list links p list) priorities' mask'
   with_list_kept p low list priorities' mask' owned bit bits =
       let inside : p < length links.lists = omega (arith, kept.lists) in
       record {
@@ -33,24 +36,38 @@ module _ (threads : ℕ) (links : Linked) (priorities : List ℕ) (mask : ℕ) (
   mark_push [] x = refl
   mark_push (y ∷ ys) x = refl
 
-  pub added_kept : (t p mask' : ℕ) → t < threads → p < 64 → (list_any (holds t) links.lists ≡ true → ⊥) → bit_at mask' p ≡ 1 → ((q : ℕ) → q < 64 → q ≢ p → bit_at mask' q ≡ bit_at mask q) → AreKept threads (pushed_back links p t) (set priorities t p) mask'
+  pub added_kept : (t p mask' : ℕ) → t < threads → p < 64 → (list_any (holds t) links.lists ≡ true → ⊥)
+      → bit_at mask' p ≡ 1 → ((q : ℕ) → q < 64 → q ≢ p → bit_at mask' q ≡ bit_at mask q)
+      → AreKept threads (pushed_back links p t) (set priorities t p) mask'
   added_kept t p mask' known low unheld bit bits =
-      with_list_kept p low (list_at links p ++ t ∷ []) (set priorities t p) mask' (owned_pushed links priorities kept.owned p t (omega (arith, kept.lists)) (omega (arith, kept.nodes)) unheld) (bit ∙ sym (mark_push (list_at links p) t)) bits
+      with_list_kept p low (list_at links p ++ t ∷ []) (set priorities t p) mask'
+      (owned_pushed links priorities kept.owned p t (omega (arith, kept.lists)) (omega (arith, kept.nodes)) unheld)
+      (bit ∙ sym (mark_push (list_at links p) t)) bits
 
-  pub removed_kept : (t p mask' : ℕ) → p < 64 → bit_at mask' p ≡ mark (without t (list_at links p)) → ((q : ℕ) → q < 64 → q ≢ p → bit_at mask' q ≡ bit_at mask q) → AreKept threads (with_list links p (without t (list_at links p))) priorities mask'
+  pub removed_kept : (t p mask' : ℕ) → p < 64 → bit_at mask' p ≡ mark (without t (list_at links p))
+      → ((q : ℕ) → q < 64 → q ≢ p → bit_at mask' q ≡ bit_at mask q)
+      → AreKept threads (with_list links p (without t (list_at links p))) priorities mask'
   removed_kept t p mask' low bit bits =
       with_list_kept p low (without t (list_at links p)) priorities mask' (owned_without links priorities kept.owned p t (omega (arith, kept.lists))) bit bits
 
   -- the first of a priority comes behind the others
-  pub turned_kept : (p first : ℕ) (rest : List ℕ) → p < 64 → list_at links p ≡ first ∷ rest → AreKept threads (with_list links p (rest ++ first ∷ [])) priorities mask
+  pub turned_kept : (p first : ℕ) (rest : List ℕ) → p < 64 → list_at links p ≡ first ∷ rest
+      → AreKept threads (with_list links p (rest ++ first ∷ [])) priorities mask
   turned_kept p first rest low is =
       let listed : p < length links.lists = omega (arith, kept.lists) in
       let own = rw is at (kept.owned.own p listed) in
       let bit = rw is at (kept.marks p low) in
-      with_list_kept p low (rest ++ first ∷ []) priorities mask (owned_with links priorities kept.owned p listed (rest ++ first ∷ []) priorities refl (All-push (Own priorities p) rest first (All-tail (Own priorities p) first rest own) (All-head (Own priorities p) first rest own)) (λ q within _. kept.owned.own q within)) (bit ∙ sym (mark_push rest first)) (λ q within _. refl)
+      with_list_kept p low (rest ++ first ∷ []) priorities mask
+      (owned_with links priorities kept.owned p listed (rest ++ first ∷ []) priorities refl
+      (All-push (Own priorities p) rest first (All-tail (Own priorities p) first rest own)
+      (All-head (Own priorities p) first rest own)) (λ q within _. kept.owned.own q within))
+      (bit ∙ sym (mark_push rest first)) (λ q within _. refl)
 
   -- a first that was popped and pushed back stands last
-  pub is_turned : (p first : ℕ) (popped pushed : Linked) → p < 64 → Some first ≡ slice_get (list_at links p) 0 → popped ≡ popped_front links p → pushed ≡ pushed_back popped p first → (list_at links p ≡ first ∷ drop 1 (list_at links p)) × (pushed ≡ with_list links p (drop 1 (list_at links p) ++ first ∷ []))
+  pub is_turned : (p first : ℕ) (popped pushed : Linked) → p < 64 → Some first ≡ slice_get (list_at links p) 0
+      → popped ≡ popped_front links p → pushed ≡ pushed_back popped p first
+      → (list_at links p ≡ first ∷ drop 1 (list_at links p))
+      × (pushed ≡ with_list links p (drop 1 (list_at links p) ++ first ∷ []))
   is_turned p first popped pushed low is pop push =
       let inside : p < length links.lists = omega (arith, kept.lists) in
       let rest = drop 1 (list_at links p) in
@@ -71,13 +88,17 @@ module _ (threads : ℕ) (links : Linked) (priorities : List ℕ) (mask : ℕ) (
       (omega (arith, stands.listed, kept.lists), stands)
 
   -- a thread leaves its list
-  pub emptied_kept : (t p place mask' : ℕ) (links' : Linked) → p < 64 → slice_get (list_at links p) place ≡ Some t → links' ≡ with_list links p (without t (list_at links p)) → list_at links' p ≡ [] → bit_at mask' p ≡ 0 → ((q : ℕ) → q < 64 → q ≢ p → bit_at mask' q ≡ bit_at mask q) → AreKept threads links' priorities mask'
+  pub emptied_kept : (t p place mask' : ℕ) (links' : Linked) → p < 64 → slice_get (list_at links p) place ≡ Some t
+      → links' ≡ with_list links p (without t (list_at links p)) → list_at links' p ≡ [] → bit_at mask' p ≡ 0
+      → ((q : ℕ) → q < 64 → q ≢ p → bit_at mask' q ≡ bit_at mask q) → AreKept threads links' priorities mask'
   emptied_kept t p place mask' links' low at is empty bit bits =
       let inside : p < length links.lists = omega (arith, kept.lists) in
       let left : without t (list_at links p) ≡ [] = sym (get_or-set_same links.lists p (without t (list_at links p)) [] inside) ∙ rw is at empty in
       rw is (removed_kept t p mask' low (rw left bit) bits)
 
-  pub remaining_kept : (t p place : ℕ) (links' : Linked) → p < 64 → slice_get (list_at links p) place ≡ Some t → links' ≡ with_list links p (without t (list_at links p)) → (list_at links' p ≡ [] → ⊥) → AreKept threads links' priorities mask
+  pub remaining_kept : (t p place : ℕ) (links' : Linked) → p < 64 → slice_get (list_at links p) place ≡ Some t
+      → links' ≡ with_list links p (without t (list_at links p)) → (list_at links' p ≡ [] → ⊥)
+      → AreKept threads links' priorities mask
   remaining_kept t p place links' low at is some =
       let inside : p < length links.lists = omega (arith, kept.lists) in
       let left : without t (list_at links p) ≡ list_at links' p = rw is (sym (get_or-set_same links.lists p (without t (list_at links p)) [] inside)) in

@@ -25,7 +25,8 @@ unmarked [] none = refl
 unmarked (node ∷ rest) none = absurd (omega arith)
 
 -- nobody is picked exactly where each queue is empty
-pub none_picked : (queues : List (List ObjNo)) (r : Option ObjNo) → r ≡ first_of_highest queues → (is_some r ≡ false → All (λ queue. queue ≡ []) queues) × (All (λ queue. queue ≡ []) queues → is_some r ≡ false)
+pub none_picked : (queues : List (List ObjNo)) (r : Option ObjNo) → r ≡ first_of_highest queues
+    → (is_some r ≡ false → All (λ queue. queue ≡ []) queues) × (All (λ queue. queue ≡ []) queues → is_some r ≡ false)
 none_picked queues None is = (λ none. empty_highest queues (sym is), λ all. refl)
 none_picked queues (Some t) is = (λ none. absurd (cc), λ all. let none = highest_empty queues all in absurd (cc))
 
@@ -37,17 +38,21 @@ module _ (threads : ℕ) (links : Linked) (priorities : List ℕ) (mask : ℕ) (
 
   pub none_ready : ((p : ℕ) → bit_at mask p ≡ 0) → All (λ queue. queue ≡ []) (queues_of links.lists)
   none_ready none =
-      All-from_get_or (λ (queue : List ObjNo). queue ≡ []) (queues_of links.lists) [] (λ p inside. empty_queue p (omega (arith, kept.lists, length-map links.lists (map thread))) (none p))
+      All-from_get_or (λ (queue : List ObjNo). queue ≡ []) (queues_of links.lists) []
+      (λ p inside. empty_queue p (omega (arith, kept.lists, length-map links.lists (map thread))) (none p))
 
   -- the first thread of the highest priority that has a bit
-  pub picked : (p first : ℕ) → p < 64 → ((q : ℕ) → p < q → bit_at mask q ≡ 0) → Some first ≡ slice_get (list_at links p) 0 → Some (thread first) ≡ first_of_highest (queues_of links.lists)
+  pub picked : (p first : ℕ) → p < 64 → ((q : ℕ) → p < q → bit_at mask q ≡ 0)
+      → Some first ≡ slice_get (list_at links p) 0 → Some (thread first) ≡ first_of_highest (queues_of links.lists)
   picked p first low above is =
       let queues = queues_of links.lists in
       let sized : length queues ≡ 64 = length-map links.lists (map thread) ∙ kept.lists in
       let empty = All-from_get_or (λ (queue : List ObjNo). queue ≡ []) (drop (p + 1) queues) [] (λ k inside.
       let short : p + 1 + k < 64 = omega (arith, sized, length-drop (p + 1) queues) in
       get_or-drop (p + 1) queues k [] ∙ empty_queue (p + 1 + k) short (above (p + 1 + k) (omega arith))) in
-      let front : Some (thread first) ≡ slice_get (get_or queues p []) 0 = sym (ap (λ (queue : List ObjNo). slice_get queue 0) (queue_thread links.lists p) ∙ slice_get-map thread (list_at links p) 0 ∙ ap (option_map thread) (sym is)) in
+      let front : Some (thread first) ≡ slice_get (get_or queues p []) 0 =
+      sym (ap (λ (queue : List ObjNo). slice_get queue 0) (queue_thread links.lists p)
+      ∙ slice_get-map thread (list_at links p) 0 ∙ ap (option_map thread) (sym is)) in
       found_highest queues p (Some (thread first)) (omega arith) (highest_empty (drop (p + 1) queues) empty) front refl
 
   -- a priority that has a bit has a first thread
@@ -73,7 +78,12 @@ module _ (threads : ℕ) (links : Linked) (priorities : List ℕ) (mask : ℕ) (
         | inl also ↦ let same = queue_own t k (omega arith) also in absurd (omega arith)
         | inr absent ↦ absent
       ] in
-      let here : holds t (get_or queues own []) ≡ true = rw (queue_thread links.lists own) (holds_thread t (list_at links own) ∙ list_any_at (λ y. eqb y t.0) (list_at links own) stands.place t.0 (slice_get_within (list_at links own) stands.place t.0 stands.at) (eq-eqb (get_or (list_at links own) stands.place t.0) t.0 (get_or_from_slice_get (list_at links own) stands.place t.0 t.0 stands.at))) in
+      let here : holds t (get_or queues own [])
+      ≡ true = rw (queue_thread links.lists own)
+      (holds_thread t (list_at links own) ∙ list_any_at (λ y. eqb y t.0) (list_at links own) stands.place t.0
+      (slice_get_within (list_at links own) stands.place t.0 stands.at)
+      (eq-eqb (get_or (list_at links own) stands.place t.0) t.0
+      (get_or_from_slice_get (list_at links own) stands.place t.0 t.0 stands.at))) in
       let place = position_or_len_is (holds t) queues own [] (omega arith) before (λ _. here) in
       rw (place, lt-ltb own (length queues) (omega arith)) refl
 

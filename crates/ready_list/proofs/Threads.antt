@@ -29,11 +29,14 @@ pub queue_thread : (lists : List (List ℕ)) (p : ℕ) → get_or (queues_of lis
 queue_thread lists p = seen_at thread lists p
 
 -- one thread more in a queue
-pub queue_added : (lists : List (List ℕ)) (p : ℕ) (t : ObjNo) → queues_of (set lists p (get_or lists p [] ++ t.0 ∷ [])) ≡ set (queues_of lists) p (get_or (queues_of lists) p [] ++ t ∷ [])
+pub queue_added : (lists : List (List ℕ)) (p : ℕ) (t : ObjNo)
+    → queues_of (set lists p (get_or lists p [] ++ t.0 ∷ []))
+    ≡ set (queues_of lists) p (get_or (queues_of lists) p [] ++ t ∷ [])
 queue_added lists p t = seen_pushed thread t.0 t refl lists p
 
 -- the first of a queue comes last
-pub queue_turned : (lists : List (List ℕ)) (p first : ℕ) (rest : List ℕ) → get_or lists p [] ≡ first ∷ rest → queues_of (set lists p (rest ++ first ∷ [])) ≡ set (queues_of lists) p (turned (get_or (queues_of lists) p []))
+pub queue_turned : (lists : List (List ℕ)) (p first : ℕ) (rest : List ℕ) → get_or lists p [] ≡ first ∷ rest
+    → queues_of (set lists p (rest ++ first ∷ [])) ≡ set (queues_of lists) p (turned (get_or (queues_of lists) p []))
 queue_turned lists p first rest is =
     rw (map-set (map thread) lists p (rest ++ first ∷ []), map-append, queue_thread lists p, is) refl
 

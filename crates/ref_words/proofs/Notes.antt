@@ -24,11 +24,14 @@ same_slip-true a b h =
     let parts = and_parts (eqb a.place b.place) (eqb a.number b.number) h in
     let places = eqb-true a.place b.place parts.0 in
     let numbers = eqb-true a.number b.number parts.1 in
-    ap (λ (n : ℕ). let s : Slip = record { place = n; number = a.number } in s) places ∙ ap (λ (n : ℕ). let s : Slip = record { place = b.place; number = n } in s) numbers
+    ap (λ (n : ℕ). let s : Slip = record { place = n; number = a.number } in s) places
+    ∙ ap (λ (n : ℕ). let s : Slip = record { place = b.place; number = n } in s) numbers
 
 -- a note passes the test against itself
 pub same_slip-itself : (a b : Slip) → a ≡ b → same_slip a b ≡ true
-same_slip-itself a b e = and_from (eqb a.place b.place) (eqb a.number b.number) (eq-eqb a.place b.place (ap (λ s. s.place) e)) (eq-eqb a.number b.number (ap (λ s. s.number) e))
+same_slip-itself a b e =
+    and_from (eqb a.place b.place) (eqb a.number b.number) (eq-eqb a.place b.place (ap (λ s. s.place) e))
+    (eq-eqb a.number b.number (ap (λ s. s.number) e))
 
 -- a note that is out is counted
 pub copies_out : (out : List Slip) (s : Slip) → IsTrue (is_out s out) → 1 ≤ copies_of s out
@@ -57,7 +60,9 @@ notes_append p out more = rw (filter-append (λ s. eqb s.place p) out more, leng
 
 -- a note that came back isn't out
 pub copies_without_itself : (s : Slip) (out : List Slip) → copies_of s (without s out) ≡ 0
-copies_without_itself s out = ap length (filter_none (λ other. same_slip other s) (λ other. not (same_slip other s)) (λ x same. not_from_true (same_slip x s) same) out)
+copies_without_itself s out =
+    ap length (filter_none (λ other. same_slip other s) (λ other. not (same_slip other s))
+    (λ x same. not_from_true (same_slip x s) same) out)
 
 -- the others are out still
 pub copies_without_other : (s t : Slip) → s ≢ t → (out : List Slip) → copies_of s (without t out) ≡ copies_of s out
@@ -122,7 +127,12 @@ not_out-after_take found w s h = omega (arith, copies_out (without s w.out) s h,
 
 -- what is out after a note came back was out before
 pub out-before_take : (found : Found) (w : Words) (s t : Slip) → IsOut (taken_back found w t) s → IsOut w s
-out-before_take found w s t h = out_copies w.out s (omega (arith, copies_out (without t w.out) s h, length_filter_filter (λ x. same_slip x s) (λ x. not (same_slip x t)) w.out))
+out-before_take found w s t h =
+    out_copies w.out s (omega (
+      arith,
+      copies_out (without t w.out) s h,
+      length_filter_filter (λ x. same_slip x s) (λ x. not (same_slip x t)) w.out,
+    ))
 
 -- nothing is out more often after a note came back
 pub copies_without : (s t : Slip) (out : List Slip) → copies_of s (without t out) ≤ copies_of s out

@@ -56,7 +56,10 @@ sound_sent w p s made low few = record {
   ];
   numbered = λ n above. let old = s.numbered n (omega arith) in
       elim (cases_Bool (same_slip (record { place = p; number = w.made + 1 }) n)) [
-        | inl same ↦ let is : w.made + 1 ≡ n.number = ap (λ x. x.number) (same_slip-true (record { place = p; number = w.made + 1 }) n same) in absurd (omega arith)
+        | inl same ↦
+            let is : w.made + 1 ≡ n.number = ap (λ x. x.number)
+            (same_slip-true (record { place = p; number = w.made + 1 }) n same) in
+            absurd (omega arith)
         | inr other ↦ rw (copies_append, other) (omega arith)
       ];
   once = λ n. let old = s.once n in
@@ -127,7 +130,9 @@ sound_closed_last w p s one =
       in_use = λ q h. grind (arith, common_steps);
       counted = λ q h. elim (cases_eq q p) as (λ _. 0 < get_or (set w.own p (own_at w p - 1)) q 0) [
         | inl here ↦ (let gone : get_or (set w.stages p Gone) q Fresh ≡ Gone = rw here (get_or-set_same w.stages p Gone Fresh inside) in absurd (cc))
-        | inr there ↦ subst (λ (n : ℕ). 0 < n) (sym (get_or-set_other w.own p q (own_at w p - 1) 0 there)) (s.counted q (sym (get_or-set_other w.stages p q Gone Fresh there) ∙ h))
+        | inr there ↦
+            subst (λ (n : ℕ). 0 < n) (sym (get_or-set_other w.own p q (own_at w p - 1) 0 there))
+            (s.counted q (sym (get_or-set_other w.stages p q Gone Fresh there) ∙ h))
       ];
       few = s.few;
       out_created = λ n out. let made = s.out_created n out in grind (arith, common_steps);

@@ -116,14 +116,30 @@ all_more P (y ∷ ys) x all h = (all.0, all_more P ys x all.1 h)
 held_wider : (less more : ℕ) (threads : List ThreadDecl) → less ≤ more → AllByRecursion (IsHeld less) threads → AllByRecursion (IsHeld more) threads
 held_wider less more [] le all = tt
 held_wider less more (t ∷ ts) le all =
-    let process = all.0.process in
-    (record { priority = all.0.priority; process = λ p e. let lt = process p e in omega arith; instrs = all.0.instrs; size = all.0.size }, held_wider less more ts le all.1)
+    let process = all.0.process in (
+      record {
+        priority = all.0.priority;
+        process = λ p e. let lt = process p e in omega arith;
+        instrs = all.0.instrs;
+        size = all.0.size;
+      },
+      held_wider less more ts le all.1,
+    )
 
 -- one more instruction of the last thread
-held_instr : (processes : ℕ) (threads : List ThreadDecl) (what : Instr) → HasRegisters what → last_instrs threads < 16384 → AllByRecursion (IsHeld processes) threads → AllByRecursion (IsHeld processes) (with_instr threads what)
+held_instr : (processes : ℕ) (threads : List ThreadDecl) (what : Instr) → HasRegisters what
+    → last_instrs threads < 16384 → AllByRecursion (IsHeld processes) threads
+    → AllByRecursion (IsHeld processes) (with_instr threads what)
 held_instr processes [] what r lt all = tt
-held_instr processes (t ∷ []) what r lt all =
-    (record { priority = all.0.priority; process = all.0.process; instrs = all_more HasRegisters t.instrs what all.0.instrs r; size = simp length-append (omega arith) }, tt)
+held_instr processes (t ∷ []) what r lt all = (
+  record {
+    priority = all.0.priority;
+    process = all.0.process;
+    instrs = all_more HasRegisters t.instrs what all.0.instrs r;
+    size = simp length-append (omega arith);
+  },
+  tt,
+)
 held_instr processes (t ∷ u ∷ ts) what r lt all = (all.0, held_instr processes (u ∷ ts) what r lt all.1)
 
 with_instr_length : (threads : List ThreadDecl) (what : Instr) → length (with_instr threads what) ≡ length threads
@@ -136,7 +152,8 @@ last_below [] h = absurd (omega arith)
 last_below (x ∷ xs) h = omega arith
 
 -- a thread stands behind a process
-pub thread_needs : (c : Context) (rank : Option ℕ) (awaits : Bool) → c.rank ≡ rank → c.awaits_thread ≡ awaits → may_stand rank awaits of.Thread ≡ true → IsSound c → 0 < length c.script.processes
+pub thread_needs : (c : Context) (rank : Option ℕ) (awaits : Bool) → c.rank ≡ rank → c.awaits_thread ≡ awaits
+    → may_stand rank awaits of.Thread ≡ true → IsSound c → 0 < length c.script.processes
 thread_needs c None awaits e f h s = absurd (cc)
 thread_needs c (Some rank) true e f h s = s.awaited f
 thread_needs c (Some rank) false e f h s = let eight : rank ≡ 8 = eqb-true rank 8 h in s.some (e ∙ ap Some eight)
@@ -146,14 +163,21 @@ rank_stays None h = absurd (cc)
 rank_stays (Some rank) h = h
 
 -- ranks don't fall
-pub earlier : (rank : Option ℕ) (awaits : Bool) (kind : LineKind) → is_thread kind ≡ false → may_stand rank awaits kind ≡ true → rank_or rank ≤ rank_of (rank_or rank) kind
+pub earlier : (rank : Option ℕ) (awaits : Bool) (kind : LineKind) → is_thread kind ≡ false
+    → may_stand rank awaits kind ≡ true → rank_or rank ≤ rank_of (rank_or rank) kind
 earlier None awaits kind other h = omega arith
 earlier (Some rank) true kind other h = absurd (cc)
 earlier (Some rank) false of.Header other h = absurd (cc)
 earlier (Some rank) false of.Thread other h = absurd (cc)
 earlier (Some rank) false of.Instr other h = omega arith
 earlier (Some rank) false of.Schedule other h = let le = leb-true rank 8 h in omega arith
-earlier (Some rank) false of.Slot other h = elim (or_true (rank == 9) (rank == 10) h) as (λ _. rank ≤ 10) [ inl e ↦ (let is : rank ≡ 9 = eqb-true rank 9 e in omega arith) | inr e ↦ (let is : rank ≡ 10 = eqb-true rank 10 e in omega arith) ]
+earlier (Some rank) false of.Slot other h =
+    elim (or_true (rank == 9) (rank == 10) h) as
+    (λ _. rank ≤ 10) [
+      | inl e ↦ (let is : rank ≡ 9 = eqb-true rank 9 e in omega arith)
+      | inr e ↦
+          (let is : rank ≡ 10 = eqb-true rank 10 e in omega arith)
+    ]
 earlier (Some rank) false of.End other h = let le = leb-true rank 10 h in omega arith
 earlier (Some rank) false of.Pool other h = leb-true rank 1 h
 earlier (Some rank) false of.Fast other h = leb-true rank 2 h
@@ -168,7 +192,13 @@ earlier (Some rank) false of.Process other h = leb-true rank 8 h
 pub in_thread : (rank : Option ℕ) (awaits : Bool) → may_stand rank awaits of.Instr ≡ true → 7 ≤ rank_or rank
 in_thread None awaits h = absurd (cc)
 in_thread (Some rank) true h = absurd (cc)
-in_thread (Some rank) false h = elim (or_true (rank == 7) (rank == 8) h) as (λ _. 7 ≤ rank) [ inl e ↦ (let is : rank ≡ 7 = eqb-true rank 7 e in omega arith) | inr e ↦ (let is : rank ≡ 8 = eqb-true rank 8 e in omega arith) ]
+in_thread (Some rank) false h =
+    elim (or_true (rank == 7) (rank == 8) h) as
+    (λ _. 7 ≤ rank) [
+      | inl e ↦ (let is : rank ≡ 7 = eqb-true rank 7 e in omega arith)
+      | inr e ↦
+          (let is : rank ≡ 8 = eqb-true rank 8 e in omega arith)
+    ]
 
 -- the priority of a thread's line
 pub kernel_priority : (name : List ℕ) (p : ℕ) (held : Bool) → is_source_line (line.KernelThread name p held) ≡ true → p ≤ 63
@@ -180,64 +210,218 @@ thread_priority name p true h = let v = in_form (form_of (line.Thread name p tru
 thread_priority name p false h = let v = in_form (form_of (line.Thread name p false)) h in (number_in 0 63 p v.0.1.0).1
 
 pub sound-after : (file : List Declared) (c : Context) (l : SourceLine) → Stands file c l → IsSound c → IsSound (after c l)
-sound-after file c line.Header h s = record { processes = s.processes; count = s.count; threads = s.threads; slots = s.slots; some = λ e. absurd (cc); awaited = λ e. absurd (cc); front = λ e. let before = earlier c.rank c.awaits_thread of.Header refl h.order in s.front (omega arith) }
-sound-after file c (line.Pool n) h s = record { processes = s.processes; count = s.count; threads = s.threads; slots = s.slots; some = λ e. absurd (cc); awaited = λ e. absurd (cc); front = λ e. let before = earlier c.rank c.awaits_thread of.Pool refl h.order in s.front (omega arith) }
-sound-after file c (line.Fast n) h s = record { processes = s.processes; count = s.count; threads = s.threads; slots = s.slots; some = λ e. absurd (cc); awaited = λ e. absurd (cc); front = λ e. let before = earlier c.rank c.awaits_thread of.Fast refl h.order in s.front (omega arith) }
-sound-after file c (line.Dfc name queue p body) h s = record { processes = s.processes; count = s.count; threads = s.threads; slots = s.slots; some = λ e. absurd (cc); awaited = λ e. absurd (cc); front = λ e. let before = earlier c.rank c.awaits_thread of.Dfc refl h.order in s.front (omega arith) }
-sound-after file c (line.Idfc name body) h s = record { processes = s.processes; count = s.count; threads = s.threads; slots = s.slots; some = λ e. absurd (cc); awaited = λ e. absurd (cc); front = λ e. let before = earlier c.rank c.awaits_thread of.Idfc refl h.order in s.front (omega arith) }
-sound-after file c (line.IrqBody k body) h s = record { processes = s.processes; count = s.count; threads = s.threads; slots = s.slots; some = λ e. absurd (cc); awaited = λ e. absurd (cc); front = λ e. let before = earlier c.rank c.awaits_thread of.IrqBody refl h.order in s.front (omega arith) }
-sound-after file c line.Schedule h s = record { processes = s.processes; count = s.count; threads = s.threads; slots = s.slots; some = λ e. absurd (cc); awaited = λ e. absurd (cc); front = λ e. let before = earlier c.rank c.awaits_thread of.Schedule refl h.order in s.front (omega arith) }
-sound-after file c line.End h s = record { processes = s.processes; count = s.count; threads = s.threads; slots = s.slots; some = λ e. absurd (cc); awaited = λ e. absurd (cc); front = λ e. let before = earlier c.rank c.awaits_thread of.End refl h.order in s.front (omega arith) }
+sound-after file c line.Header h s = record {
+  processes = s.processes;
+  count = s.count;
+  threads = s.threads;
+  slots = s.slots;
+  some = λ e. absurd (cc);
+  awaited = λ e. absurd (cc);
+  front = λ e. let before = earlier c.rank c.awaits_thread of.Header refl h.order in s.front (omega arith);
+}
+sound-after file c (line.Pool n) h s = record {
+  processes = s.processes;
+  count = s.count;
+  threads = s.threads;
+  slots = s.slots;
+  some = λ e. absurd (cc);
+  awaited = λ e. absurd (cc);
+  front = λ e. let before = earlier c.rank c.awaits_thread of.Pool refl h.order in s.front (omega arith);
+}
+sound-after file c (line.Fast n) h s = record {
+  processes = s.processes;
+  count = s.count;
+  threads = s.threads;
+  slots = s.slots;
+  some = λ e. absurd (cc);
+  awaited = λ e. absurd (cc);
+  front = λ e. let before = earlier c.rank c.awaits_thread of.Fast refl h.order in s.front (omega arith);
+}
+sound-after file c (line.Dfc name queue p body) h s = record {
+  processes = s.processes;
+  count = s.count;
+  threads = s.threads;
+  slots = s.slots;
+  some = λ e. absurd (cc);
+  awaited = λ e. absurd (cc);
+  front = λ e. let before = earlier c.rank c.awaits_thread of.Dfc refl h.order in s.front (omega arith);
+}
+sound-after file c (line.Idfc name body) h s = record {
+  processes = s.processes;
+  count = s.count;
+  threads = s.threads;
+  slots = s.slots;
+  some = λ e. absurd (cc);
+  awaited = λ e. absurd (cc);
+  front = λ e. let before = earlier c.rank c.awaits_thread of.Idfc refl h.order in s.front (omega arith);
+}
+sound-after file c (line.IrqBody k body) h s = record {
+  processes = s.processes;
+  count = s.count;
+  threads = s.threads;
+  slots = s.slots;
+  some = λ e. absurd (cc);
+  awaited = λ e. absurd (cc);
+  front = λ e. let before = earlier c.rank c.awaits_thread of.IrqBody refl h.order in s.front (omega arith);
+}
+sound-after file c line.Schedule h s = record {
+  processes = s.processes;
+  count = s.count;
+  threads = s.threads;
+  slots = s.slots;
+  some = λ e. absurd (cc);
+  awaited = λ e. absurd (cc);
+  front = λ e. let before = earlier c.rank c.awaits_thread of.Schedule refl h.order in s.front (omega arith);
+}
+sound-after file c line.End h s = record {
+  processes = s.processes;
+  count = s.count;
+  threads = s.threads;
+  slots = s.slots;
+  some = λ e. absurd (cc);
+  awaited = λ e. absurd (cc);
+  front = λ e. let before = earlier c.rank c.awaits_thread of.End refl h.order in s.front (omega arith);
+}
 sound-after file c (line.Queue name p) h s =
     let room = ltb-true (length c.script.queues) 7 h.within in
     let size : length (after c (line.Queue name p)).script.queues ≡ suc (length c.script.queues) = simp length-append (omega arith) in
     let before = earlier c.rank c.awaits_thread of.Queue refl h.order in
     let none = s.front (omega arith) in
-    record { processes = s.processes; count = omega arith; threads = s.threads; slots = s.slots; some = λ e. absurd (cc); awaited = λ e. absurd (cc); front = λ e. none }
+    record {
+      processes = s.processes;
+      count = omega arith;
+      threads = s.threads;
+      slots = s.slots;
+      some = λ e. absurd (cc);
+      awaited = λ e. absurd (cc);
+      front = λ e. none;
+    }
 sound-after file c (line.KernelThread name p held) h s =
     let room = ltb-true (length c.script.queues + length c.script.threads) 63 h.within in
     let small = kernel_priority name p held h.ranges in
     let size : length (after c (line.KernelThread name p held)).script.threads ≡ suc (length c.script.threads) = simp length-append (omega arith) in
-    record { processes = s.processes; count = omega arith; threads = all_more (IsHeld (length c.script.processes)) c.script.threads _ s.threads (record { priority = small; process = λ q e. absurd (cc); instrs = tt; size = omega arith }); slots = s.slots; some = λ e. absurd (cc); awaited = λ e. absurd (cc); front = λ e. absurd (omega arith) }
+    record {
+      processes = s.processes;
+      count = omega arith;
+      threads =
+          all_more (IsHeld (length c.script.processes)) c.script.threads _ s.threads
+          (record { priority = small; process = λ q e. absurd (cc); instrs = tt; size = omega arith });
+      slots = s.slots;
+      some = λ e. absurd (cc);
+      awaited = λ e. absurd (cc);
+      front = λ e. absurd (omega arith);
+    }
 sound-after file c (line.Process name) h s =
     let room = ltb-true (length c.script.processes) 16 h.within in
     let size : length (after c (line.Process name)).script.processes ≡ suc (length c.script.processes) = simp length-append (omega arith) in
-    record { processes = omega arith; count = s.count; threads = held_wider (length c.script.processes) (length (after c (line.Process name)).script.processes) c.script.threads (omega arith) s.threads; slots = s.slots; some = λ e. omega arith; awaited = λ e. omega arith; front = λ e. absurd (omega arith) }
+    record {
+      processes = omega arith;
+      count = s.count;
+      threads =
+          held_wider (length c.script.processes) (length (after c (line.Process name)).script.processes) c.script.threads
+          (omega arith) s.threads;
+      slots = s.slots;
+      some = λ e. omega arith;
+      awaited = λ e. omega arith;
+      front = λ e. absurd (omega arith);
+    }
 sound-after file c (line.Thread name p held) h s =
     let room = ltb-true (length c.script.queues + length c.script.threads) 63 h.within in
     let least = thread_needs c c.rank c.awaits_thread refl refl h.order s in
     let small = thread_priority name p held h.ranges in
     let below = last_below c.script.processes least in
     let size : length (after c (line.Thread name p held)).script.threads ≡ suc (length c.script.threads) = simp length-append (omega arith) in
-    record { processes = s.processes; count = omega arith; threads = all_more (IsHeld (length c.script.processes)) c.script.threads _ s.threads (record { priority = small; process = λ q e. let same : last_of c.script.processes ≡ q = cc in omega arith; instrs = tt; size = omega arith }); slots = s.slots; some = λ e. least; awaited = λ e. least; front = λ e. absurd (omega arith) }
+    record {
+      processes = s.processes;
+      count = omega arith;
+      threads =
+          all_more (IsHeld (length c.script.processes)) c.script.threads _ s.threads
+          (record {
+            priority = small;
+            process = λ q e. let same : last_of c.script.processes ≡ q = cc in omega arith;
+            instrs = tt;
+            size = omega arith;
+          });
+      slots = s.slots;
+      some = λ e. least;
+      awaited = λ e. least;
+      front = λ e. absurd (omega arith);
+    }
 sound-after file c (line.Instr what) h s =
     let room = both (nat_lt (last_instrs c.script.threads) 16384) (nat_lt (all_instrs c.script.threads) 65536) h.within in
     let size = with_instr_length c.script.threads what in
     let count = s.count in
     let late = in_thread c.rank c.awaits_thread h.order in
-    record { processes = s.processes; count = omega arith; threads = held_instr (length c.script.processes) c.script.threads what (registers what h.ranges) (ltb-true (last_instrs c.script.threads) 16384 room.0) s.threads; slots = s.slots; some = λ e. s.some (rank_stays c.rank e); awaited = λ e. absurd (cc); front = λ e. absurd (omega arith) }
+    record {
+      processes = s.processes;
+      count = omega arith;
+      threads =
+          held_instr (length c.script.processes) c.script.threads what (registers what h.ranges)
+          (ltb-true (last_instrs c.script.threads) 16384 room.0) s.threads;
+      slots = s.slots;
+      some = λ e. s.some (rank_stays c.rank e);
+      awaited = λ e. absurd (cc);
+      front = λ e. absurd (omega arith);
+    }
 sound-after file c (line.Go count) h s =
     let room = leb-true (length c.script.slots + count) 65536 h.within in
     let size : length (after c (line.Go count)).script.slots ≡ length c.script.slots + count = simp (length-append, length-replicate) refl in
-    record { processes = s.processes; count = s.count; threads = s.threads; slots = omega arith; some = λ e. absurd (cc); awaited = λ e. absurd (cc); front = λ e. absurd (omega arith) }
+    record {
+      processes = s.processes;
+      count = s.count;
+      threads = s.threads;
+      slots = omega arith;
+      some = λ e. absurd (cc);
+      awaited = λ e. absurd (cc);
+      front = λ e. absurd (omega arith);
+    }
 sound-after file c line.Tick h s =
     let room = ltb-true (length c.script.slots) 65536 h.within in
     let size : length (after c line.Tick).script.slots ≡ suc (length c.script.slots) = simp length-append (omega arith) in
-    record { processes = s.processes; count = s.count; threads = s.threads; slots = omega arith; some = λ e. absurd (cc); awaited = λ e. absurd (cc); front = λ e. absurd (omega arith) }
+    record {
+      processes = s.processes;
+      count = s.count;
+      threads = s.threads;
+      slots = omega arith;
+      some = λ e. absurd (cc);
+      awaited = λ e. absurd (cc);
+      front = λ e. absurd (omega arith);
+    }
 sound-after file c (line.IrqSlot k) h s =
     let room = ltb-true (length c.script.slots) 65536 h.within in
     let size : length (after c (line.IrqSlot k)).script.slots ≡ suc (length c.script.slots) = simp length-append (omega arith) in
-    record { processes = s.processes; count = s.count; threads = s.threads; slots = omega arith; some = λ e. absurd (cc); awaited = λ e. absurd (cc); front = λ e. absurd (omega arith) }
+    record {
+      processes = s.processes;
+      count = s.count;
+      threads = s.threads;
+      slots = omega arith;
+      some = λ e. absurd (cc);
+      awaited = λ e. absurd (cc);
+      front = λ e. absurd (omega arith);
+    }
 
 pub sound-all : (file : List Declared) (c : Context) (lines : List SourceLine) → AllStand file c lines → IsSound c → IsSound (after_all c lines)
 sound-all file c [] stand s = s
 sound-all file c (l ∷ ls) stand s = sound-all file (after c l) ls stand.1 (sound-after file c l stand.0 s)
 
 pub sound-start : IsSound start
-sound-start = record { front = λ e. refl; processes = omega arith; count = omega arith; threads = tt; slots = omega arith; some = λ e. absurd (cc); awaited = λ e. absurd (cc) }
+sound-start = record {
+  front = λ e. refl;
+  processes = omega arith;
+  count = omega arith;
+  threads = tt;
+  slots = omega arith;
+  some = λ e. absurd (cc);
+  awaited = λ e. absurd (cc);
+}
 
 shaped_thread : (processes : ℕ) (thread : ThreadDecl) → IsHeld processes thread → IsShapedThread processes thread
-shaped_thread processes thread h = record { priority = h.priority; process = h.process; registers = at_place HasRegisters thread.instrs h.instrs; size = h.size }
+shaped_thread processes thread h = record {
+  priority = h.priority;
+  process = h.process;
+  registers = at_place HasRegisters thread.instrs h.instrs;
+  size = h.size;
+}
 
 -- the limits that a script keeps
 pub record KeepsLimits (script : Script) : Type 0 where
@@ -252,7 +436,9 @@ sound_limits c s =
     record {
       processes = s.processes;
       count = omega arith;
-      threads = λ k thread h. shaped_thread (length c.script.processes) thread (at_place (IsHeld (length c.script.processes)) c.script.threads s.threads k thread h);
+      threads =
+          λ k thread h. shaped_thread (length c.script.processes) thread
+          (at_place (IsHeld (length c.script.processes)) c.script.threads s.threads k thread h);
       slots = s.slots;
     }
 

@@ -45,7 +45,10 @@ or_later false b h = h
 
 any_more : {A : Type 0} (test : A → Bool) (xs ys : List A) → list_any test xs ≡ true → list_any test (xs ++ ys) ≡ true
 any_more test [] ys h = absurd (cc)
-any_more test (x ∷ xs) ys h = elim (or_true (test x) (list_any test xs) h) as (λ _. (test x || list_any test (xs ++ ys)) ≡ true) [ inl e ↦ (rw e refl) | inr e ↦ or_later (test x) (list_any test (xs ++ ys)) (any_more test xs ys e) ]
+any_more test (x ∷ xs) ys h =
+    elim (or_true (test x) (list_any test xs) h) as
+    (λ _. (test x || list_any test (xs ++ ys)) ≡ true)
+    [ inl e ↦ (rw e refl) | inr e ↦ or_later (test x) (list_any test (xs ++ ys)) (any_more test xs ys e) ]
 
 any_last : {A : Type 0} (test : A → Bool) (xs : List A) (x : A) → test x ≡ true → list_any test (xs ++ x ∷ []) ≡ true
 any_last test [] x h = rw h refl
@@ -59,16 +62,22 @@ record Tells (sort : List ℕ) (has : Script → List ℕ → Bool) : Type 0 whe
   grows : (c : Context) (l : SourceLine) (name : List ℕ) → has c.script name ≡ true → has (after c l).script name ≡ true
   adds : (c : Context) (l : SourceLine) (name : List ℕ) → declares sort name (first_two (source_words l)) ≡ true → has (after c l).script name ≡ true
 
-stays : (sort : List ℕ) (has : Script → List ℕ → Bool) → Tells sort has → (c : Context) (lines : List SourceLine) (name : List ℕ) → has c.script name ≡ true → has (after_all c lines).script name ≡ true
+stays : (sort : List ℕ) (has : Script → List ℕ → Bool) → Tells sort has
+    → (c : Context) (lines : List SourceLine) (name : List ℕ) → has c.script name ≡ true
+    → has (after_all c lines).script name ≡ true
 stays sort has t c [] name h = h
 stays sort has t c (l ∷ ls) name h = stays sort has t (after c l) ls name (t.grows c l name h)
 
-told : (sort : List ℕ) (has : Script → List ℕ → Bool) → Tells sort has → (c : Context) (lines : List SourceLine) (name : List ℕ) → is_declared (twos lines) sort name ≡ true → has (after_all c lines).script name ≡ true
+told : (sort : List ℕ) (has : Script → List ℕ → Bool) → Tells sort has
+    → (c : Context) (lines : List SourceLine) (name : List ℕ) → is_declared (twos lines) sort name ≡ true
+    → has (after_all c lines).script name ≡ true
 told sort has t c [] name h = absurd (cc)
-told sort has t c (l ∷ ls) name h = elim (or_true (declares sort name (first_two (source_words l))) (is_declared (twos ls) sort name) h) as (λ _. has (after_all (after c l) ls).script name ≡ true) [
-  | inl e ↦ stays sort has t (after c l) ls name (t.adds c l name e)
-  | inr e ↦ told sort has t (after c l) ls name e
-]
+told sort has t c (l ∷ ls) name h =
+    elim (or_true (declares sort name (first_two (source_words l))) (is_declared (twos ls) sort name) h) as
+    (λ _. has (after_all (after c l) ls).script name ≡ true) [
+      | inl e ↦ stays sort has t (after c l) ls name (t.adds c l name e)
+      | inr e ↦ told sort has t (after c l) ls name e
+    ]
 
 -- no instruction's word begins a declaration
 abbrev sorts : List (List ℕ)
@@ -95,10 +104,13 @@ any_off : (test : List ℕ → Bool) (words : List (List ℕ)) → list_any test
 any_off test [] h = tt
 any_off test (word ∷ words) h = let parts = or_false (test word) (list_any test words) h in (parts.0, any_off test words parts.1)
 
-not_told : (sort name : List ℕ) (what : Instr) → bytes_eq (keyword_text (form_of (line.Instr what)).keyword) sort ≡ false → declares sort name (first_two (source_words (line.Instr what))) ≡ true → ⊥
+not_told : (sort name : List ℕ) (what : Instr)
+    → bytes_eq (keyword_text (form_of (line.Instr what)).keyword) sort ≡ false
+    → declares sort name (first_two (source_words (line.Instr what))) ≡ true → ⊥
 not_told sort name what off h =
     let first = both (bytes_eq (first_two (source_words (line.Instr what))).0 sort) (bytes_eq (first_two (source_words (line.Instr what))).1 name) h in
-    let is : (first_two (source_words (line.Instr what))).0 ≡ keyword_text (form_of (line.Instr what)).keyword = two_first (keyword_text (form_of (line.Instr what)).keyword) _ in
+    let is : (first_two (source_words (line.Instr what))).0 ≡ keyword_text (form_of (line.Instr what)).keyword =
+    two_first (keyword_text (form_of (line.Instr what)).keyword) _ in
     let bad : true ≡ false = sym first.0 ∙ ap (λ (w : List ℕ). bytes_eq w sort) is ∙ off in
     cc
 
@@ -123,7 +135,9 @@ no_thread what = (any_off (bytes_eq (keyword_text (form_of (line.Instr what)).ke
 no_schedule : (what : Instr) → bytes_eq (keyword_text (form_of (line.Instr what)).keyword) (codes "schedule") ≡ false
 no_schedule what = (any_off (bytes_eq (keyword_text (form_of (line.Instr what)).keyword)) sorts (instr_sort what)).1.1.1.1.1.1.0
 
-instr_named : (name : List ℕ) (ts : List ThreadDecl) (what : Instr) → list_any (λ (t : ThreadDecl). bytes_eq name t.name) ts ≡ list_any (λ (t : ThreadDecl). bytes_eq name t.name) (with_instr ts what)
+instr_named : (name : List ℕ) (ts : List ThreadDecl) (what : Instr)
+    → list_any (λ (t : ThreadDecl). bytes_eq name t.name) ts
+    ≡ list_any (λ (t : ThreadDecl). bytes_eq name t.name) (with_instr ts what)
 instr_named name [] what = refl
 instr_named name (t ∷ []) what = refl
 instr_named name (t ∷ u ∷ ts) what = ap (λ (b : Bool). bytes_eq name t.name || b) (instr_named name (u ∷ ts) what)
@@ -132,7 +146,8 @@ queue-grows : (c : Context) (l : SourceLine) (name : List ℕ) → has_queue c.s
 queue-grows c (line.Queue n p) name h = any_more (λ (d : QueueDecl). bytes_eq name d.name) c.script.queues _ h
 queue-grows c _ name h = h
 
-queue-adds : (c : Context) (l : SourceLine) (name : List ℕ) → declares (codes "dfcq") name (first_two (source_words l)) ≡ true → has_queue (after c l).script name ≡ true
+queue-adds : (c : Context) (l : SourceLine) (name : List ℕ)
+    → declares (codes "dfcq") name (first_two (source_words l)) ≡ true → has_queue (after c l).script name ≡ true
 queue-adds c (line.Queue n p) name h = any_last (λ (d : QueueDecl). bytes_eq name d.name) c.script.queues _ (turned n name h)
 queue-adds c (line.Instr what) name h = absurd (not_told (codes "dfcq") name what (no_dfcq what) h)
 queue-adds c (line.KernelThread n p true) name h = absurd (cc)
@@ -145,7 +160,8 @@ dfc-grows : (c : Context) (l : SourceLine) (name : List ℕ) → has_dfc c.scrip
 dfc-grows c (line.Dfc n queue p ops) name h = any_more (λ (d : DfcDecl). bytes_eq name d.name) c.script.dfcs _ h
 dfc-grows c _ name h = h
 
-dfc-adds : (c : Context) (l : SourceLine) (name : List ℕ) → declares (codes "dfc") name (first_two (source_words l)) ≡ true → has_dfc (after c l).script name ≡ true
+dfc-adds : (c : Context) (l : SourceLine) (name : List ℕ)
+    → declares (codes "dfc") name (first_two (source_words l)) ≡ true → has_dfc (after c l).script name ≡ true
 dfc-adds c (line.Dfc n queue p ops) name h = any_last (λ (d : DfcDecl). bytes_eq name d.name) c.script.dfcs _ (turned n name h)
 dfc-adds c (line.Instr what) name h = absurd (not_told (codes "dfc") name what (no_dfc what) h)
 dfc-adds c (line.KernelThread n p true) name h = absurd (cc)
@@ -158,7 +174,8 @@ idfc-grows : (c : Context) (l : SourceLine) (name : List ℕ) → has_idfc c.scr
 idfc-grows c (line.Idfc n ops) name h = any_more (λ (d : IdfcDecl). bytes_eq name d.name) c.script.idfcs _ h
 idfc-grows c _ name h = h
 
-idfc-adds : (c : Context) (l : SourceLine) (name : List ℕ) → declares (codes "idfc") name (first_two (source_words l)) ≡ true → has_idfc (after c l).script name ≡ true
+idfc-adds : (c : Context) (l : SourceLine) (name : List ℕ)
+    → declares (codes "idfc") name (first_two (source_words l)) ≡ true → has_idfc (after c l).script name ≡ true
 idfc-adds c (line.Idfc n ops) name h = any_last (λ (d : IdfcDecl). bytes_eq name d.name) c.script.idfcs _ (turned n name h)
 idfc-adds c (line.Instr what) name h = absurd (not_told (codes "idfc") name what (no_idfc what) h)
 idfc-adds c (line.KernelThread n p true) name h = absurd (cc)
@@ -173,7 +190,8 @@ thread-grows c (line.Thread n p held) name h = any_more (λ (d : ThreadDecl). by
 thread-grows c (line.Instr what) name h = sym (instr_named name c.script.threads what) ∙ h
 thread-grows c _ name h = h
 
-thread-adds : (c : Context) (l : SourceLine) (name : List ℕ) → declares (codes "thread") name (first_two (source_words l)) ≡ true → has_thread (after c l).script name ≡ true
+thread-adds : (c : Context) (l : SourceLine) (name : List ℕ)
+    → declares (codes "thread") name (first_two (source_words l)) ≡ true → has_thread (after c l).script name ≡ true
 thread-adds c (line.Thread n p true) name h = any_last (λ (d : ThreadDecl). bytes_eq name d.name) c.script.threads _ (turned n name h)
 thread-adds c (line.Thread n p false) name h = any_last (λ (d : ThreadDecl). bytes_eq name d.name) c.script.threads _ (turned n name h)
 thread-adds c (line.Instr what) name h = absurd (not_told (codes "thread") name what (no_thread what) h)
@@ -181,7 +199,8 @@ thread-adds c (line.KernelThread n p true) name h = absurd (cc)
 thread-adds c (line.KernelThread n p false) name h = absurd (cc)
 thread-adds c _ name h = absurd (cc)
 
-kthread-adds : (c : Context) (l : SourceLine) (name : List ℕ) → declares (codes "kthread") name (first_two (source_words l)) ≡ true → has_thread (after c l).script name ≡ true
+kthread-adds : (c : Context) (l : SourceLine) (name : List ℕ)
+    → declares (codes "kthread") name (first_two (source_words l)) ≡ true → has_thread (after c l).script name ≡ true
 kthread-adds c (line.KernelThread n p true) name h = any_last (λ (d : ThreadDecl). bytes_eq name d.name) c.script.threads _ (turned n name h)
 kthread-adds c (line.KernelThread n p false) name h = any_last (λ (d : ThreadDecl). bytes_eq name d.name) c.script.threads _ (turned n name h)
 kthread-adds c (line.Instr what) name h = absurd (not_told (codes "kthread") name what (no_kthread what) h)
@@ -214,14 +233,17 @@ irq_stays c [] k h = h
 irq_stays c (l ∷ ls) k h = irq_stays (after c l) ls k (irq-grows c l k h)
 
 same_number : (j k : ℕ) → j ≤ 31 → k ≤ 31 → bytes_eq (decimal j) (decimal k) ≡ true → (j == k) ≡ true
-same_number j k small few h = let is = decimal_injective j k (omega arith) (omega arith) ((bytes_eq-Decides (decimal j) (decimal k)).0 h) in grind (arith, nat_tests)
+same_number j k small few h =
+    let is = decimal_injective j k (omega arith) (omega arith) ((bytes_eq-Decides (decimal j) (decimal k)).0 h) in
+    grind (arith, nat_tests)
 
 slot_late : (rank : Option ℕ) (awaits : Bool) → may_stand rank awaits of.Slot ≡ true → 9 ≤ rank_or rank
 slot_late None awaits h = absurd (cc)
 slot_late (Some rank) true h = absurd (cc)
 slot_late (Some rank) false h = grind (arith, nat_tests)
 
-none_behind : (file : List Declared) (c : Context) (lines : List SourceLine) (k : ℕ) → AllStand file (after c line.End) lines → is_irq_declared (twos lines) (decimal k) ≡ true → ⊥
+none_behind : (file : List Declared) (c : Context) (lines : List SourceLine) (k : ℕ)
+    → AllStand file (after c line.End) lines → is_irq_declared (twos lines) (decimal k) ≡ true → ⊥
 none_behind file c [] k stand h = cc
 none_behind file c (line.Instr what ∷ ls) k stand h = let order = stand.0.order in cc
 none_behind file c (l ∷ ls) k stand h = let order = stand.0.order in cc
@@ -231,11 +253,17 @@ irq_step true here later h = absurd (cc)
 irq_step false true later h = (refl, inl refl)
 irq_step false false later h = (refl, inr h)
 
-irq_told : (file : List Declared) (c : Context) (lines : List SourceLine) (k : ℕ) → AllStand file c lines → rank_or c.rank < 9 → k ≤ 31 → is_irq_declared (twos lines) (decimal k) ≡ true → has_irq (after_all c lines).script k ≡ true
+irq_told : (file : List Declared) (c : Context) (lines : List SourceLine) (k : ℕ) → AllStand file c lines
+    → rank_or c.rank < 9 → k ≤ 31 → is_irq_declared (twos lines) (decimal k) ≡ true
+    → has_irq (after_all c lines).script k ≡ true
 irq_told file c [] k stand before few h = absurd (cc)
 irq_told file c (line.IrqBody j ops ∷ ls) k stand before few h =
-    elim (irq_step false (bytes_eq (decimal j) (decimal k)) (is_irq_declared (twos ls) (decimal k)) h).1 as (λ _. has_irq (after_all (after c (line.IrqBody j ops)) ls).script k ≡ true) [
-      | inl e ↦ irq_stays (after c (line.IrqBody j ops)) ls k (any_last (λ (i : IrqBody). i.number == k) c.script.irqs _ (same_number j k (number_in 0 31 j (in_form (form_of (line.IrqBody j ops)) stand.0.ranges).0.0).1 few e))
+    elim (irq_step false (bytes_eq (decimal j) (decimal k)) (is_irq_declared (twos ls) (decimal k)) h).1 as
+    (λ _. has_irq (after_all (after c (line.IrqBody j ops)) ls).script k ≡ true) [
+      | inl e ↦
+          irq_stays (after c (line.IrqBody j ops)) ls k
+          (any_last (λ (i : IrqBody). i.number == k) c.script.irqs _
+          (same_number j k (number_in 0 31 j (in_form (form_of (line.IrqBody j ops)) stand.0.ranges).0.0).1 few e))
       | inr e ↦ irq_told file (after c (line.IrqBody j ops)) ls k stand.1 (omega arith) few e
     ]
 irq_told file c (line.Schedule ∷ ls) k stand before few h = absurd (cc)
@@ -244,7 +272,9 @@ irq_told file c (line.Go count ∷ ls) k stand before few h = let late = slot_la
 irq_told file c (line.Tick ∷ ls) k stand before few h = let late = slot_late c.rank c.awaits_thread stand.0.order in absurd (omega arith)
 irq_told file c (line.End ∷ ls) k stand before few h = absurd (none_behind file c ls k stand.1 h)
 irq_told file c (line.Instr what ∷ ls) k stand before few h =
-    let s = irq_step (bytes_eq (first_two (source_words (line.Instr what))).0 (codes "schedule")) (declares (codes "irq") (decimal k) (first_two (source_words (line.Instr what)))) (is_irq_declared (twos ls) (decimal k)) h in
+    let s = irq_step (bytes_eq (first_two (source_words (line.Instr what))).0 (codes "schedule"))
+    (declares (codes "irq") (decimal k) (first_two (source_words (line.Instr what))))
+    (is_irq_declared (twos ls) (decimal k)) h in
     elim s.1 as (λ _. has_irq (after_all (after c (line.Instr what)) ls).script k ≡ true) [
       | inl e ↦ absurd (not_told (codes "irq") (decimal k) what (no_irq what) e)
       | inr e ↦ irq_told file (after c (line.Instr what)) ls k stand.1 before few e
@@ -271,35 +301,116 @@ record AreKnown (file : List Declared) (s : Script) : Type 0 where
   instrs : list_all (λ (t : ThreadDecl). list_all (is_known_instr file s.fast) t.instrs) s.threads ≡ true
   slots : list_all (slot_known file) s.slots ≡ true
 
-all_goes : (file : List Declared) (slots : List Slot) (count : ℕ) → list_all (slot_known file) slots ≡ true → list_all (slot_known file) (slots ++ replicate count slot.Go) ≡ true
+all_goes : (file : List Declared) (slots : List Slot) (count : ℕ) → list_all (slot_known file) slots ≡ true
+    → list_all (slot_known file) (slots ++ replicate count slot.Go) ≡ true
 unfolding slot_known
 all_goes file [] zero all = refl
 all_goes file [] (suc n) all = all_goes file [] n all
 all_goes file (x ∷ xs) count all = let parts = both (slot_known file x) (list_all (slot_known file) xs) all in rw (parts.0, all_goes file xs count parts.1) refl
 
-no_thread_known : (file : List Declared) (fast : ℕ) (ts : List ThreadDecl) → length ts ≡ 0 → list_all (λ (t : ThreadDecl). list_all (is_known_instr file fast) t.instrs) ts ≡ true
+no_thread_known : (file : List Declared) (fast : ℕ) (ts : List ThreadDecl) → length ts ≡ 0
+    → list_all (λ (t : ThreadDecl). list_all (is_known_instr file fast) t.instrs) ts ≡ true
 no_thread_known file fast [] h = refl
 no_thread_known file fast (t ∷ ts) h = absurd (omega arith)
 
 known-after : (file : List Declared) (c : Context) (l : SourceLine) → Stands file c l → IsSound c → AreKnown file c.script → AreKnown file (after c l).script
 unfolding slot_known
-known-after file c (line.Fast k) h s n = let before = earlier c.rank c.awaits_thread of.Fast refl h.order in record { queues = n.queues; dfcs = n.dfcs; idfcs = n.idfcs; irqs = n.irqs; instrs = no_thread_known file k c.script.threads (s.front (omega arith)); slots = n.slots }
-known-after file c (line.Dfc name queue p ops) h s n = let parts = both (queue_known file queue) (list_all (is_known_op file) ops) h.known in record { queues = all_push (λ (d : DfcDecl). queue_known file d.queue) c.script.dfcs _ n.queues parts.0; dfcs = all_push (λ (d : DfcDecl). list_all (is_known_op file) d.body) c.script.dfcs _ n.dfcs parts.1; idfcs = n.idfcs; irqs = n.irqs; instrs = n.instrs; slots = n.slots }
-known-after file c (line.Idfc name ops) h s n = record { queues = n.queues; dfcs = n.dfcs; idfcs = all_push (λ (d : IdfcDecl). list_all (is_known_op file) d.body) c.script.idfcs _ n.idfcs h.known; irqs = n.irqs; instrs = n.instrs; slots = n.slots }
-known-after file c (line.IrqBody k ops) h s n = record { queues = n.queues; dfcs = n.dfcs; idfcs = n.idfcs; irqs = all_push (λ (i : IrqBody). list_all (is_known_op file) i.body) c.script.irqs _ n.irqs h.known; instrs = n.instrs; slots = n.slots }
-known-after file c (line.KernelThread name p held) h s n = record { queues = n.queues; dfcs = n.dfcs; idfcs = n.idfcs; irqs = n.irqs; instrs = all_push (λ (t : ThreadDecl). list_all (is_known_instr file c.script.fast) t.instrs) c.script.threads _ n.instrs refl; slots = n.slots }
-known-after file c (line.Thread name p held) h s n = record { queues = n.queues; dfcs = n.dfcs; idfcs = n.idfcs; irqs = n.irqs; instrs = all_push (λ (t : ThreadDecl). list_all (is_known_instr file c.script.fast) t.instrs) c.script.threads _ n.instrs refl; slots = n.slots }
-known-after file c (line.Instr what) h s n = record { queues = n.queues; dfcs = n.dfcs; idfcs = n.idfcs; irqs = n.irqs; instrs = instr_push (is_known_instr file c.script.fast) c.script.threads what n.instrs h.known; slots = n.slots }
-known-after file c (line.Go count) h s n = record { queues = n.queues; dfcs = n.dfcs; idfcs = n.idfcs; irqs = n.irqs; instrs = n.instrs; slots = all_goes file c.script.slots count n.slots }
+known-after file c (line.Fast k) h s n =
+    let before = earlier c.rank c.awaits_thread of.Fast refl h.order in
+    record {
+      queues = n.queues;
+      dfcs = n.dfcs;
+      idfcs = n.idfcs;
+      irqs = n.irqs;
+      instrs = no_thread_known file k c.script.threads (s.front (omega arith));
+      slots = n.slots;
+    }
+known-after file c (line.Dfc name queue p ops) h s n =
+    let parts = both (queue_known file queue) (list_all (is_known_op file) ops) h.known in
+    record {
+      queues = all_push (λ (d : DfcDecl). queue_known file d.queue) c.script.dfcs _ n.queues parts.0;
+      dfcs = all_push (λ (d : DfcDecl). list_all (is_known_op file) d.body) c.script.dfcs _ n.dfcs parts.1;
+      idfcs = n.idfcs;
+      irqs = n.irqs;
+      instrs = n.instrs;
+      slots = n.slots;
+    }
+known-after file c (line.Idfc name ops) h s n = record {
+  queues = n.queues;
+  dfcs = n.dfcs;
+  idfcs = all_push (λ (d : IdfcDecl). list_all (is_known_op file) d.body) c.script.idfcs _ n.idfcs h.known;
+  irqs = n.irqs;
+  instrs = n.instrs;
+  slots = n.slots;
+}
+known-after file c (line.IrqBody k ops) h s n = record {
+  queues = n.queues;
+  dfcs = n.dfcs;
+  idfcs = n.idfcs;
+  irqs = all_push (λ (i : IrqBody). list_all (is_known_op file) i.body) c.script.irqs _ n.irqs h.known;
+  instrs = n.instrs;
+  slots = n.slots;
+}
+known-after file c (line.KernelThread name p held) h s n = record {
+  queues = n.queues;
+  dfcs = n.dfcs;
+  idfcs = n.idfcs;
+  irqs = n.irqs;
+  instrs =
+      all_push (λ (t : ThreadDecl). list_all (is_known_instr file c.script.fast) t.instrs) c.script.threads _ n.instrs
+      refl;
+  slots = n.slots;
+}
+known-after file c (line.Thread name p held) h s n = record {
+  queues = n.queues;
+  dfcs = n.dfcs;
+  idfcs = n.idfcs;
+  irqs = n.irqs;
+  instrs =
+      all_push (λ (t : ThreadDecl). list_all (is_known_instr file c.script.fast) t.instrs) c.script.threads _ n.instrs
+      refl;
+  slots = n.slots;
+}
+known-after file c (line.Instr what) h s n = record {
+  queues = n.queues;
+  dfcs = n.dfcs;
+  idfcs = n.idfcs;
+  irqs = n.irqs;
+  instrs = instr_push (is_known_instr file c.script.fast) c.script.threads what n.instrs h.known;
+  slots = n.slots;
+}
+known-after file c (line.Go count) h s n = record {
+  queues = n.queues;
+  dfcs = n.dfcs;
+  idfcs = n.idfcs;
+  irqs = n.irqs;
+  instrs = n.instrs;
+  slots = all_goes file c.script.slots count n.slots;
+}
 known-after file c (line.IrqSlot k) h s n =
     let v = in_form (form_of (line.IrqSlot k)) h.ranges in
     let le = (both (nat_le 0 k) (nat_le k 31) v.0.0).1 in
     let known = h.known in
-    record { queues = n.queues; dfcs = n.dfcs; idfcs = n.idfcs; irqs = n.irqs; instrs = n.instrs; slots = all_push (slot_known file) c.script.slots (slot.Irq k) n.slots (rw (le, known) refl) }
-known-after file c line.Tick h s n = record { queues = n.queues; dfcs = n.dfcs; idfcs = n.idfcs; irqs = n.irqs; instrs = n.instrs; slots = all_push (slot_known file) c.script.slots slot.Tick n.slots refl }
+    record {
+      queues = n.queues;
+      dfcs = n.dfcs;
+      idfcs = n.idfcs;
+      irqs = n.irqs;
+      instrs = n.instrs;
+      slots = all_push (slot_known file) c.script.slots (slot.Irq k) n.slots (rw (le, known) refl);
+    }
+known-after file c line.Tick h s n = record {
+  queues = n.queues;
+  dfcs = n.dfcs;
+  idfcs = n.idfcs;
+  irqs = n.irqs;
+  instrs = n.instrs;
+  slots = all_push (slot_known file) c.script.slots slot.Tick n.slots refl;
+}
 known-after file c _ h s n = record { queues = n.queues; dfcs = n.dfcs; idfcs = n.idfcs; irqs = n.irqs; instrs = n.instrs; slots = n.slots }
 
-known-all : (file : List Declared) (c : Context) (lines : List SourceLine) → AllStand file c lines → IsSound c → AreKnown file c.script → AreKnown file (after_all c lines).script
+known-all : (file : List Declared) (c : Context) (lines : List SourceLine) → AllStand file c lines → IsSound c
+    → AreKnown file c.script → AreKnown file (after_all c lines).script
 known-all file c [] stand s n = n
 known-all file c (l ∷ ls) stand s n = known-all file (after c l) ls stand.1 (sound-after file c l stand.0 s) (known-after file c l stand.0 s n)
 
@@ -325,17 +436,25 @@ module _ (lines : List SourceLine) (stand : AllStand (twos lines) start lines) w
   or_first : (a b : Bool) → a ≡ true → (a || b) ≡ true
   or_first a b h = rw h refl
 
-  thread_told : (name : List ℕ) → (is_declared (twos lines) (codes "thread") name ≡ true) ⊎ (is_declared (twos lines) (codes "kthread") name ≡ true) → has_thread made name ≡ true
+  thread_told : (name : List ℕ)
+      → (is_declared (twos lines) (codes "thread") name ≡ true)
+      ⊎ (is_declared (twos lines) (codes "kthread") name ≡ true)
+      → has_thread made name ≡ true
   unfolding made
   thread_told name (inl e) = told (codes "thread") has_thread thread_tells start lines name e
   thread_told name (inr e) = told (codes "kthread") has_thread kernel_tells start lines name e
 
   thread_is : (name : List ℕ) → is_thread_declared (twos lines) name ≡ true → is_thread made name ≡ true
   unfolding made
-  thread_is name h = elim (or_true (is_declared (twos lines) (codes "thread") name || is_declared (twos lines) (codes "kthread") name) (is_declared (twos lines) (codes "dfcq") name) h) as (λ _. is_thread made name ≡ true) [
-    | inl e ↦ or_first (has_thread made name) (has_queue made name) (thread_told name (or_true (is_declared (twos lines) (codes "thread") name) (is_declared (twos lines) (codes "kthread") name) e))
-    | inr e ↦ or_later (has_thread made name) (has_queue made name) (queue_there name e)
-  ]
+  thread_is name h =
+      elim (or_true (is_declared (twos lines) (codes "thread") name || is_declared (twos lines) (codes "kthread") name)
+      (is_declared (twos lines) (codes "dfcq") name) h) as (λ _. is_thread made name ≡ true) [
+        | inl e ↦
+            or_first (has_thread made name) (has_queue made name)
+            (thread_told name (or_true (is_declared (twos lines) (codes "thread") name)
+            (is_declared (twos lines) (codes "kthread") name) e))
+        | inr e ↦ or_later (has_thread made name) (has_queue made name) (queue_there name e)
+      ]
 
   dfc_is : (name : List ℕ) → is_declared (twos lines) (codes "dfc") name ≡ true → has_dfc made name ≡ true
   unfolding made
@@ -358,26 +477,42 @@ module _ (lines : List SourceLine) (stand : AllStand (twos lines) start lines) w
 
   slot_is : (what : Slot) → slot_known (twos lines) what ≡ true → slot_resolves made what ≡ true
   unfolding made slot_known
-  slot_is (slot.Irq k) h = let parts = both (nat_le k 31) (is_irq_declared (twos lines) (decimal k)) h in irq_told (twos lines) start lines k stand (omega arith) (leb-true k 31 parts.0) parts.1
+  slot_is (slot.Irq k) h =
+      let parts = both (nat_le k 31) (is_irq_declared (twos lines) (decimal k)) h in
+      irq_told (twos lines) start lines k stand (omega arith) (leb-true k 31 parts.0) parts.1
   slot_is slot.Go h = refl
   slot_is slot.Tick h = refl
 
   resolves : DoNamesResolve made
   unfolding made
   resolves =
-      let n = known-all (twos lines) start lines stand sound-start (record { queues = refl; dfcs = refl; idfcs = refl; irqs = refl; instrs = refl; slots = refl }) in
+      let n = known-all (twos lines) start lines stand sound-start
+      (record { queues = refl; dfcs = refl; idfcs = refl; irqs = refl; instrs = refl; slots = refl }) in
       let ops = all_as (is_known_op (twos lines)) (op_resolves made) op_is in
       record {
-        queues = all_as (λ (d : DfcDecl). queue_known (twos lines) d.queue) (λ (d : DfcDecl). is_queue made d.queue) (λ d h. queue_is d.queue h) made.dfcs n.queues;
-        dfcs = all_as (λ (d : DfcDecl). list_all (is_known_op (twos lines)) d.body) (λ (d : DfcDecl). list_all (op_resolves made) d.body) (λ d h. ops d.body h) made.dfcs n.dfcs;
-        idfcs = all_as (λ (d : IdfcDecl). list_all (is_known_op (twos lines)) d.body) (λ (d : IdfcDecl). list_all (op_resolves made) d.body) (λ d h. ops d.body h) made.idfcs n.idfcs;
-        irqs = all_as (λ (i : IrqBody). list_all (is_known_op (twos lines)) i.body) (λ (i : IrqBody). list_all (op_resolves made) i.body) (λ i h. ops i.body h) made.irqs n.irqs;
-        instrs = all_as (λ (t : ThreadDecl). list_all (is_known_instr (twos lines) made.fast) t.instrs) (λ (t : ThreadDecl). list_all (instr_resolves made) t.instrs) (λ t h. all_as (is_known_instr (twos lines) made.fast) (instr_resolves made) instr_is t.instrs h) made.threads n.instrs;
+        queues =
+            all_as (λ (d : DfcDecl). queue_known (twos lines) d.queue) (λ (d : DfcDecl). is_queue made d.queue)
+            (λ d h. queue_is d.queue h) made.dfcs n.queues;
+        dfcs =
+            all_as (λ (d : DfcDecl). list_all (is_known_op (twos lines)) d.body)
+            (λ (d : DfcDecl). list_all (op_resolves made) d.body) (λ d h. ops d.body h) made.dfcs n.dfcs;
+        idfcs =
+            all_as (λ (d : IdfcDecl). list_all (is_known_op (twos lines)) d.body)
+            (λ (d : IdfcDecl). list_all (op_resolves made) d.body) (λ d h. ops d.body h) made.idfcs n.idfcs;
+        irqs =
+            all_as (λ (i : IrqBody). list_all (is_known_op (twos lines)) i.body)
+            (λ (i : IrqBody). list_all (op_resolves made) i.body) (λ i h. ops i.body h) made.irqs n.irqs;
+        instrs =
+            all_as (λ (t : ThreadDecl). list_all (is_known_instr (twos lines) made.fast) t.instrs)
+            (λ (t : ThreadDecl). list_all (instr_resolves made) t.instrs)
+            (λ t h. all_as (is_known_instr (twos lines) made.fast) (instr_resolves made) instr_is t.instrs h) made.threads
+            n.instrs;
         slots = all_as (slot_known (twos lines)) (slot_resolves made) slot_is made.slots n.slots;
       }
 
 pub formed_names_resolve : (script : Script) → IsWellFormed script → DoNamesResolve script
 unfolding made
 formed_names_resolve script f =
-    let stand : AllStand (twos f.lines) start f.lines = subst (λ (ws : List (List (List ℕ))). AllStand (map first_two ws) start f.lines) f.are.spelled f.are.stand in
+    let stand : AllStand (twos f.lines) start f.lines = subst
+    (λ (ws : List (List (List ℕ))). AllStand (map first_two ws) start f.lines) f.are.spelled f.are.stand in
     subst DoNamesResolve (sym f.same) (resolves f.lines stand)

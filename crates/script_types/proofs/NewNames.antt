@@ -35,7 +35,8 @@ pub record AreNamesNew (script : Script) : Type 0 where
   pub threads : AreNamesApart (codes "supervisor" ∷ queue_names script.queues ++ thread_names script.threads)
 
 -- a test of names is one of what has them
-any_name : {A : Type 0} (name_of : A → List ℕ) (name : List ℕ) (xs : List A) → list_any (bytes_eq name) (map name_of xs) ≡ list_any (λ x. bytes_eq name (name_of x)) xs
+any_name : {A : Type 0} (name_of : A → List ℕ) (name : List ℕ) (xs : List A)
+    → list_any (bytes_eq name) (map name_of xs) ≡ list_any (λ x. bytes_eq name (name_of x)) xs
 any_name name_of name [] = refl
 any_name name_of name (x ∷ xs) = ap (λ b. bytes_eq name (name_of x) || b) (any_name name_of name xs)
 
@@ -43,12 +44,17 @@ any_name name_of name (x ∷ xs) = ap (λ b. bytes_eq name (name_of x) || b) (an
 put_last : {A : Type 0} (name_of : A → List ℕ) (xs : List A) (x : A) → IsPut (name_of x) (map name_of xs) (map name_of (xs ++ x ∷ []))
 put_last name_of xs x = inr (map name_of xs, [], sym (append-nil (map name_of xs)), map-append name_of xs (x ∷ []))
 
-process_more : (s : Script) (p : ProcessDecl) → not (is_process_name s p.name) ≡ true → AreNamesApart (codes "kernel" ∷ process_names s.processes) → AreNamesApart (codes "kernel" ∷ process_names (s.processes ++ p ∷ []))
+process_more : (s : Script) (p : ProcessDecl) → not (is_process_name s p.name) ≡ true
+    → AreNamesApart (codes "kernel" ∷ process_names s.processes)
+    → AreNamesApart (codes "kernel" ∷ process_names (s.processes ++ p ∷ []))
 process_more s p h new =
-    let apart = or_parts (bytes_eq p.name (codes "kernel")) (list_any (λ (q : ProcessDecl). bytes_eq p.name q.name) s.processes) (not-true (is_process_name s p.name) h) in
+    let apart = or_parts (bytes_eq p.name (codes "kernel"))
+    (list_any (λ (q : ProcessDecl). bytes_eq p.name q.name) s.processes) (not-true (is_process_name s p.name) h) in
     apart_put p.name (codes "kernel" ∷ process_names s.processes) (codes "kernel" ∷ process_names (s.processes ++ p ∷ []))
-    (put_behind p.name (codes "kernel" ∷ []) (process_names s.processes) (process_names (s.processes ++ p ∷ [])) (put_last (λ (q : ProcessDecl). q.name) s.processes p))
-    (or_from (bytes_eq p.name (codes "kernel")) (list_any (bytes_eq p.name) (process_names s.processes)) apart.0 (any_name (λ (q : ProcessDecl). q.name) p.name s.processes ∙ apart.1))
+    (put_behind p.name (codes "kernel" ∷ []) (process_names s.processes) (process_names (s.processes ++ p ∷ []))
+    (put_last (λ (q : ProcessDecl). q.name) s.processes p))
+    (or_from (bytes_eq p.name (codes "kernel")) (list_any (bytes_eq p.name) (process_names s.processes)) apart.0
+    (any_name (λ (q : ProcessDecl). q.name) p.name s.processes ∙ apart.1))
     new
 
 -- the names of threads
@@ -66,17 +72,22 @@ no_thread_named s name h =
     ∙ or_from (list_any (bytes_eq name) (queue_names s.queues)) (list_any (bytes_eq name) (thread_names s.threads))
     (any_name (λ (q : QueueDecl). q.name) name s.queues ∙ first.1) (any_name (λ (t : ThreadDecl). t.name) name s.threads ∙ apart.1))
 
-queue_more : (s : Script) (q : QueueDecl) → not (is_thread_name s q.name) ≡ true → AreNamesApart (all_threads s) → AreNamesApart (codes "supervisor" ∷ queue_names (s.queues ++ q ∷ []) ++ thread_names s.threads)
+queue_more : (s : Script) (q : QueueDecl) → not (is_thread_name s q.name) ≡ true → AreNamesApart (all_threads s)
+    → AreNamesApart (codes "supervisor" ∷ queue_names (s.queues ++ q ∷ []) ++ thread_names s.threads)
 queue_more s q h new =
     let names = thread_names s.threads in
     let put : queue_names (s.queues ++ q ∷ []) ++ names ≡ queue_names s.queues ++ q.name ∷ names =
-    ap (λ (l : List (List ℕ)). l ++ names) (map-append (λ (d : QueueDecl). d.name) s.queues (q ∷ [])) ∙ append_assoc (queue_names s.queues) (q.name ∷ []) names in
+    ap (λ (l : List (List ℕ)). l ++ names) (map-append (λ (d : QueueDecl). d.name) s.queues (q ∷ []))
+    ∙ append_assoc (queue_names s.queues) (q.name ∷ []) names in
     apart_put q.name (all_threads s) (codes "supervisor" ∷ queue_names (s.queues ++ q ∷ []) ++ names)
     (inr (codes "supervisor" ∷ queue_names s.queues, names, refl, ap (λ (l : List (List ℕ)). codes "supervisor" ∷ l) put)) (no_thread_named s q.name h) new
 
-thread_more : (s : Script) (t : ThreadDecl) → not (is_thread_name s t.name) ≡ true → AreNamesApart (all_threads s) → AreNamesApart (codes "supervisor" ∷ queue_names s.queues ++ thread_names (s.threads ++ t ∷ []))
+thread_more : (s : Script) (t : ThreadDecl) → not (is_thread_name s t.name) ≡ true → AreNamesApart (all_threads s)
+    → AreNamesApart (codes "supervisor" ∷ queue_names s.queues ++ thread_names (s.threads ++ t ∷ []))
 thread_more s t h new = apart_put t.name (all_threads s) (codes "supervisor" ∷ queue_names s.queues ++ thread_names (s.threads ++ t ∷ []))
-    (put_behind t.name (codes "supervisor" ∷ queue_names s.queues) (thread_names s.threads) (thread_names (s.threads ++ t ∷ [])) (put_last (λ (u : ThreadDecl). u.name) s.threads t)) (no_thread_named s t.name h) new
+    (put_behind t.name (codes "supervisor" ∷ queue_names s.queues) (thread_names s.threads)
+    (thread_names (s.threads ++ t ∷ [])) (put_last (λ (u : ThreadDecl). u.name) s.threads t))
+    (no_thread_named s t.name h) new
 
 instr_names : (threads : List ThreadDecl) (what : Instr) → thread_names (with_instr threads what) ≡ thread_names threads
 instr_names [] what = refl
@@ -85,10 +96,18 @@ instr_names (t ∷ u ∷ ts) what = ap (λ (l : List (List ℕ)). t.name ∷ l) 
 
 new-after : (file : List Declared) (c : Context) (l : SourceLine) → Stands file c l → AreNamesNew c.script → AreNamesNew (after c l).script
 new-after file c (line.Process name) h n = record { processes = process_more c.script (record { name = name }) h.new n.processes; threads = n.threads }
-new-after file c (line.Queue name priority) h n = record { processes = n.processes; threads = queue_more c.script (record { name = name; priority = priority }) h.new n.threads }
+new-after file c (line.Queue name priority) h n = record {
+  processes = n.processes;
+  threads = queue_more c.script (record { name = name; priority = priority }) h.new n.threads;
+}
 new-after file c (line.KernelThread name priority held) h n = record { processes = n.processes; threads = thread_more c.script _ h.new n.threads }
 new-after file c (line.Thread name priority held) h n = record { processes = n.processes; threads = thread_more c.script _ h.new n.threads }
-new-after file c (line.Instr what) h n = record { processes = n.processes; threads = subst (λ (l : List (List ℕ)). AreNamesApart (codes "supervisor" ∷ queue_names c.script.queues ++ l)) (sym (instr_names c.script.threads what)) n.threads }
+new-after file c (line.Instr what) h n = record {
+  processes = n.processes;
+  threads =
+      subst (λ (l : List (List ℕ)). AreNamesApart (codes "supervisor" ∷ queue_names c.script.queues ++ l))
+      (sym (instr_names c.script.threads what)) n.threads;
+}
 new-after file c _ h n = record { processes = n.processes; threads = n.threads }
 
 new-all : (file : List Declared) (c : Context) (lines : List SourceLine) → AllStand file c lines → AreNamesNew c.script → AreNamesNew (after_all c lines).script

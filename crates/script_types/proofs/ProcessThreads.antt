@@ -44,7 +44,8 @@ has_instr i (t ∷ u ∷ us) what (inl here) = inl here
 has_instr i (t ∷ u ∷ us) what (inr later) = inr (has_instr i (u ∷ us) what later)
 
 -- where a line that isn't a thread's may stand, no thread is awaited
-settled : (c : Context) (kind : LineKind) (rank : Option ℕ) (awaits : Bool) → c.rank ≡ rank → c.awaits_thread ≡ awaits → may_stand rank awaits kind ≡ true → is_thread kind ≡ false → IsSettled c → c.awaits_thread ≡ false
+settled : (c : Context) (kind : LineKind) (rank : Option ℕ) (awaits : Bool) → c.rank ≡ rank → c.awaits_thread ≡ awaits
+    → may_stand rank awaits kind ≡ true → is_thread kind ≡ false → IsSettled c → c.awaits_thread ≡ false
 settled c kind rank false e f h other o = f
 settled c kind None true e f h other o = let at = o.awaiting f in absurd (cc)
 settled c kind (Some rank) true e f h other o = absurd (cc)
@@ -118,4 +119,5 @@ ended_has c ended o i below = elim (cases_lt (suc i) (length c.script.processes)
 pub formed_has_thread : (script : Script) → IsWellFormed script → (i : ℕ) → i < length script.processes → HasThread i script.threads
 formed_has_thread script a =
     let c = after_all start a.lines in
-    subst (λ (s : Script). (i : ℕ) → i < length s.processes → HasThread i s.threads) (sym a.same) (ended_has c a.ended (settled-all _ start a.lines a.are.stand sound-start settled-start))
+    subst (λ (s : Script). (i : ℕ) → i < length s.processes → HasThread i s.threads) (sym a.same)
+    (ended_has c a.ended (settled-all _ start a.lines a.are.stand sound-start settled-start))

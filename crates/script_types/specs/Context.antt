@@ -105,9 +105,20 @@ told s (line.Queue name priority) = record s { queues = s.queues ++ record { nam
 told s (line.Dfc name queue priority body) = record s { dfcs = s.dfcs ++ record { name = name; queue = queue; priority = priority; body = body } ∷ [] }
 told s (line.Idfc name body) = record s { idfcs = s.idfcs ++ record { name = name; body = body } ∷ [] }
 told s (line.IrqBody k body) = record s { irqs = s.irqs ++ record { number = k; body = body } ∷ [] }
-told s (line.KernelThread name priority held) = record s { threads = s.threads ++ record { name = name; priority = priority; held = held; process = None; instrs = [] } ∷ [] }
+told s (line.KernelThread name priority held) = record s {
+  threads = s.threads ++ record { name = name; priority = priority; held = held; process = None; instrs = [] } ∷ [];
+}
 told s (line.Process name) = record s { processes = s.processes ++ record { name = name } ∷ [] }
-told s (line.Thread name priority held) = record s { threads = s.threads ++ record { name = name; priority = priority; held = held; process = Some (last_of s.processes); instrs = [] } ∷ [] }
+told s (line.Thread name priority held) = record s {
+  threads =
+      s.threads ++ record {
+        name = name;
+        priority = priority;
+        held = held;
+        process = Some (last_of s.processes);
+        instrs = [];
+      } ∷ [];
+}
 told s (line.Instr what) = record s { threads = with_instr s.threads what }
 told s line.Schedule = s
 told s (line.Go count) = record s { slots = s.slots ++ replicate count slot.Go }

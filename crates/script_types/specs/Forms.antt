@@ -228,8 +228,16 @@ instr_of word.Waitfor second values = instr.WaitFor values.0
 instr_of word.Status second values = instr.Status values.0
 instr_of word.Server second values = instr.Server values.0 values.1.0
 instr_of word.Connect second values = instr.Connect values.0 values.1.0 values.1.1.0
-instr_of word.Send second values = instr.Send values.0 values.1.0 values.1.1.0 (record { 0 = values.1.1.1.0; 1 = values.1.1.1.1.0; 2 = values.1.1.1.1.1.0; 3 = values.1.1.1.1.1.1.0 })
-instr_of word.Call second values = instr.Call values.0 values.1.0 (record { 0 = values.1.1.0; 1 = values.1.1.1.0; 2 = values.1.1.1.1.0; 3 = values.1.1.1.1.1.0 })
+instr_of word.Send second values =
+    instr.Send values.0 values.1.0 values.1.1.0
+    (record { 0 = values.1.1.1.0; 1 = values.1.1.1.1.0; 2 = values.1.1.1.1.1.0; 3 = values.1.1.1.1.1.1.0 })
+instr_of word.Call second values =
+    instr.Call values.0 values.1.0 (record {
+      0 = values.1.1.0;
+      1 = values.1.1.1.0;
+      2 = values.1.1.1.1.0;
+      3 = values.1.1.1.1.1.0;
+    })
 instr_of word.Receive second values = instr.Receive values.0 values.1.0
 instr_of word.Complete second values = instr.Complete values.0 values.1.0
 instr_of word.Function second values = instr.Function values.0

@@ -30,7 +30,18 @@ keyword_text (key.Instr w) = word_text w
 
 -- all of them: instructions first, of which a script has most
 abbrev pub keywords : List Keyword
-keywords = key.Instr word.Create ∷ key.Instr word.Open ∷ key.Instr word.Dup ∷ key.Instr word.Duplocal ∷ key.Instr word.Close ∷ key.Instr word.Lock ∷ key.Instr word.Unlock ∷ key.Instr word.Wait ∷ key.Instr word.Signal ∷ key.Instr word.Suspend ∷ key.Instr word.Resume ∷ key.Instr word.Priority ∷ key.Instr word.Kill ∷ key.Instr word.Terminate ∷ key.Instr word.Panic ∷ key.Instr word.Exittype ∷ key.Instr word.Logon ∷ key.Instr word.Exit ∷ key.Instr word.Flock ∷ key.Instr word.Funlock ∷ key.Instr word.Fswait ∷ key.Instr word.Fssignal ∷ key.Instr word.Enter ∷ key.Instr word.Leave ∷ key.Instr word.Queue ∷ key.Instr word.Request ∷ key.Instr word.Cancel ∷ key.Instr word.Waitany ∷ key.Instr word.Waitfor ∷ key.Instr word.Status ∷ key.Instr word.Server ∷ key.Instr word.Connect ∷ key.Instr word.Send ∷ key.Instr word.Call ∷ key.Instr word.Receive ∷ key.Instr word.Complete ∷ key.Instr word.Function ∷ key.Instr word.Read ∷ key.Instr word.Write ∷ key.Instr word.Fill ∷ key.Instr word.Peek ∷ key.Eka2 ∷ key.Pool ∷ key.Fast ∷ key.Dfcq ∷ key.Dfc ∷ key.Idfc ∷ key.Irq ∷ key.Kthread ∷ key.Process ∷ key.Thread ∷ key.Schedule ∷ key.Go ∷ key.Tick ∷ key.End ∷ []
+keywords =
+    key.Instr word.Create ∷ key.Instr word.Open ∷ key.Instr word.Dup ∷ key.Instr word.Duplocal ∷ key.Instr word.Close ∷
+    key.Instr word.Lock ∷ key.Instr word.Unlock ∷ key.Instr word.Wait ∷ key.Instr word.Signal ∷ key.Instr word.Suspend ∷
+    key.Instr word.Resume ∷ key.Instr word.Priority ∷ key.Instr word.Kill ∷ key.Instr word.Terminate ∷ key.Instr
+    word.Panic ∷ key.Instr word.Exittype ∷ key.Instr word.Logon ∷ key.Instr word.Exit ∷ key.Instr word.Flock ∷ key.Instr
+    word.Funlock ∷ key.Instr word.Fswait ∷ key.Instr word.Fssignal ∷ key.Instr word.Enter ∷ key.Instr word.Leave ∷
+    key.Instr word.Queue ∷ key.Instr word.Request ∷ key.Instr word.Cancel ∷ key.Instr word.Waitany ∷ key.Instr
+    word.Waitfor ∷ key.Instr word.Status ∷ key.Instr word.Server ∷ key.Instr word.Connect ∷ key.Instr word.Send ∷
+    key.Instr word.Call ∷ key.Instr word.Receive ∷ key.Instr word.Complete ∷ key.Instr word.Function ∷ key.Instr
+    word.Read ∷ key.Instr word.Write ∷ key.Instr word.Fill ∷ key.Instr word.Peek ∷ key.Eka2 ∷ key.Pool ∷ key.Fast ∷
+    key.Dfcq ∷ key.Dfc ∷ key.Idfc ∷ key.Irq ∷ key.Kthread ∷ key.Process ∷ key.Thread ∷ key.Schedule ∷ key.Go ∷ key.Tick
+    ∷ key.End ∷ []
 
 -- what a word begins
 unfoldable pub keyword_of : List ℕ → Option Keyword

@@ -64,7 +64,8 @@ is_known_instr file fast (instr.Queue name) = is_declared file (codes "dfc") nam
 is_known_instr file fast _ = true
 
 abbrev pub is_known : List Declared → Context → SourceLine → Bool
-is_known file c (line.Dfc name queue priority body) = (bytes_eq queue (codes "supervisor") || is_declared file (codes "dfcq") queue) && list_all (is_known_op file) body
+is_known file c (line.Dfc name queue priority body) =
+    (bytes_eq queue (codes "supervisor") || is_declared file (codes "dfcq") queue) && list_all (is_known_op file) body
 is_known file c (line.Idfc name body) = list_all (is_known_op file) body
 is_known file c (line.IrqBody k body) = list_all (is_known_op file) body
 is_known file c (line.Instr what) = is_known_instr file c.script.fast what
@@ -73,7 +74,9 @@ is_known file c _ = true
 
 -- a name of a thread so far, with those of queues and the supervisor, and a name of a process
 abbrev pub is_thread_name : Script → List ℕ → Bool
-is_thread_name s name = bytes_eq name (codes "supervisor") || list_any (λ (q : QueueDecl). bytes_eq name q.name) s.queues || list_any (λ (t : ThreadDecl). bytes_eq name t.name) s.threads
+is_thread_name s name =
+    bytes_eq name (codes "supervisor") || list_any (λ (q : QueueDecl). bytes_eq name q.name) s.queues || list_any
+    (λ (t : ThreadDecl). bytes_eq name t.name) s.threads
 
 abbrev pub is_process_name : Script → List ℕ → Bool
 is_process_name s name = bytes_eq name (codes "kernel") || list_any (λ (p : ProcessDecl). bytes_eq name p.name) s.processes

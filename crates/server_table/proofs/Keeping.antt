@@ -25,12 +25,15 @@ link_other : (sessions : List (Option SessionRow)) (s x : ℕ) (row : Option Ses
 link_other sessions s x row other = ap link_of (get_or-set_other sessions s x row None other)
 
 -- all links stay where a row with the same link is written
-pub link_stays : (sessions : List (Option SessionRow)) (s : ℕ) (row : Option SessionRow) → link_of row ≡ link_at sessions s → (x : ℕ) → link_at (set sessions s row) x ≡ link_at sessions x
+pub link_stays : (sessions : List (Option SessionRow)) (s : ℕ) (row : Option SessionRow)
+    → link_of row ≡ link_at sessions s → (x : ℕ) → link_at (set sessions s row) x ≡ link_at sessions x
 link_stays sessions s row same x =
     elim (cases_eq x s) [
       | inl here ↦ elim (cases_lt s (length sessions)) [
         | inl inside ↦ rw here (link_same sessions s row inside ∙ same)
-        | inr past ↦ rw here (ap link_of (get_or_past (set sessions s row) s None (omega (arith, length-set sessions s row)) ∙ sym (get_or_past sessions s None past)))
+        | inr past ↦
+            rw here (ap link_of (get_or_past (set sessions s row) s None (omega (arith, length-set sessions s row))
+            ∙ sym (get_or_past sessions s None past)))
       ]
       | inr there ↦ link_other sessions s x row there
     ]
@@ -61,7 +64,9 @@ kept_new n small = record {
 
 module _ (servers : List (Option ServerRow)) (sessions : List (Option SessionRow)) (links : Linked) (kept : AreKept servers sessions links) where
   -- rows may change that have the same links
-  pub kept_rows : (servers' : List (Option ServerRow)) (sessions' : List (Option SessionRow)) → length servers' ≡ length servers → length sessions' ≡ length sessions → ((x : ℕ) → link_at sessions' x ≡ link_at sessions x) → AreKept servers' sessions' links
+  pub kept_rows : (servers' : List (Option ServerRow)) (sessions' : List (Option SessionRow))
+      → length servers' ≡ length servers → length sessions' ≡ length sessions
+      → ((x : ℕ) → link_at sessions' x ≡ link_at sessions x) → AreKept servers' sessions' links
   kept_rows servers' sessions' as_many as_many_sessions same = record {
     small = kept.small;
     lists = kept.lists;
@@ -85,7 +90,9 @@ module _ (servers : List (Option ServerRow)) (sessions : List (Option SessionRow
   linked_below s v is = let at = linked_stands s v is in listed_from links.lists v at.0 s at.1
 
   -- a session comes to a server's list
-  pub kept_added : (servers' : List (Option ServerRow)) (s v : ℕ) (row : Option SessionRow) → length servers' ≡ length servers → s < length sessions → v < length links.lists → link_at sessions s ≡ None → link_of row ≡ Some (object v) → AreKept servers' (set sessions s row) (pushed_back links v s)
+  pub kept_added : (servers' : List (Option ServerRow)) (s v : ℕ) (row : Option SessionRow)
+      → length servers' ≡ length servers → s < length sessions → v < length links.lists → link_at sessions s ≡ None
+      → link_of row ≡ Some (object v) → AreKept servers' (set sessions s row) (pushed_back links v s)
   kept_added servers' s v row as_many inside listed none link = record {
     small = kept.small;
     lists = rw length-set kept.lists;
@@ -133,7 +140,9 @@ module _ (servers : List (Option ServerRow)) (sessions : List (Option SessionRow
           ]
 
   -- a session leaves its server's list
-  pub kept_left : (s v : ℕ) (row : Option SessionRow) → s < length sessions → link_at sessions s ≡ Some (object v) → link_of row ≡ None → AreKept servers (set sessions s row) (with_list links v (nodes.without s (list_at links v)))
+  pub kept_left : (s v : ℕ) (row : Option SessionRow) → s < length sessions → link_at sessions s ≡ Some (object v)
+      → link_of row ≡ None
+      → AreKept servers (set sessions s row) (with_list links v (nodes.without s (list_at links v)))
   kept_left s v row inside was link = record {
     small = kept.small;
     lists = rw length-set kept.lists;
@@ -149,7 +158,8 @@ module _ (servers : List (Option ServerRow)) (sessions : List (Option SessionRow
       there : (w : ℕ) → w ≢ v → list_at (with_list links v (nodes.without s (list_at links v))) w ≡ list_at links w
       there w other = get_or-set_other links.lists v w (nodes.without s (list_at links v)) [] other
 
-      left_linked : (w x : ℕ) → nodes.holds x (list_at (with_list links v (nodes.without s (list_at links v))) w) ≡ true → link_at (set sessions s row) x ≡ Some (object w)
+      left_linked : (w x : ℕ) → nodes.holds x (list_at (with_list links v (nodes.without s (list_at links v))) w) ≡ true
+          → link_at (set sessions s row) x ≡ Some (object w)
       left_linked w x held =
           elim (cases_eq w v) [
             | inl same ↦
@@ -166,7 +176,8 @@ module _ (servers : List (Option ServerRow)) (sessions : List (Option SessionRow
                 ]
           ]
 
-      left_listed : (w x : ℕ) → link_at (set sessions s row) x ≡ Some (object w) → nodes.holds x (list_at (with_list links v (nodes.without s (list_at links v))) w) ≡ true
+      left_listed : (w x : ℕ) → link_at (set sessions s row) x ≡ Some (object w)
+          → nodes.holds x (list_at (with_list links v (nodes.without s (list_at links v))) w) ≡ true
       left_listed w x is =
           elim (cases_eq x s) [
             | inl gone ↦ absurd (no_link (link_of row) w link (sym (link_same sessions s row inside) ∙ rw gone at is))
@@ -179,7 +190,9 @@ module _ (servers : List (Option ServerRow)) (sessions : List (Option SessionRow
           ]
 
   -- a session stands among a server's exactly where its row has that server
-  pub server_tells : (s server : ObjNo) (r : Option ObjNo) → r ≡ link_at sessions s.0 → (holds s (get_or (sessions_of links.lists) server.0 []) ≡ true → r ≡ Some server) × (r ≡ Some server → holds s (get_or (sessions_of links.lists) server.0 []) ≡ true)
+  pub server_tells : (s server : ObjNo) (r : Option ObjNo) → r ≡ link_at sessions s.0
+      → (holds s (get_or (sessions_of links.lists) server.0 []) ≡ true → r ≡ Some server)
+      × (r ≡ Some server → holds s (get_or (sessions_of links.lists) server.0 []) ≡ true)
   server_tells s server r is = (
     λ held. is ∙ kept.linked server.0 s.0 (sym (holds_at_server links.lists server.0 s) ∙ held),
     λ some. holds_at_server links.lists server.0 s ∙ kept.listed server.0 s.0 (sym is ∙ some),
@@ -200,9 +213,17 @@ linked_server None linked = absurd (cc)
 linked_server (Some server) linked = (server, refl)
 
 -- what the table stands for once a session came
-pub rows_added : (servers : List (Option ServerRow)) (sessions : List (Option SessionRow)) (links : Linked) (s server : ObjNo) (slots : Slots) (client : ObjNo) → rows_of (set servers s.0 None) (set sessions s.0 (Some (new_session server slots client))) (pushed_back links server.0 s.0) ≡ after_add_session (rows_of servers sessions links) s server slots client
+pub rows_added : (servers : List (Option ServerRow)) (sessions : List (Option SessionRow)) (links : Linked)
+    (s server : ObjNo) (slots : Slots) (client : ObjNo)
+    → rows_of (set servers s.0 None) (set sessions s.0 (Some (new_session server slots client)))
+    (pushed_back links server.0 s.0) ≡ after_add_session (rows_of servers sessions links) s server slots client
 rows_added servers sessions links s server slots client = rw (session_added links.lists server.0 s) refl
 
 -- and once one was detached
-pub rows_left : (servers : List (Option ServerRow)) (sessions : List (Option SessionRow)) (links : Linked) (s server : ObjNo) (row : SessionRow) → get_or sessions s.0 None ≡ Some row → row.server ≡ Some server → rows_of servers (set sessions s.0 (Some (detached row))) (with_list links server.0 (nodes.without s.0 (list_at links server.0))) ≡ after_detach (rows_of servers sessions links) s
+pub rows_left : (servers : List (Option ServerRow)) (sessions : List (Option SessionRow)) (links : Linked)
+    (s server : ObjNo) (row : SessionRow)
+    → get_or sessions s.0 None ≡ Some row → row.server ≡ Some server
+    → rows_of servers (set sessions s.0 (Some (detached row)))
+    (with_list links server.0 (nodes.without s.0 (list_at links server.0)))
+    ≡ after_detach (rows_of servers sessions links) s
 rows_left servers sessions links s server row at link = rw (at, link, session_left links.lists server.0 s) refl

@@ -23,7 +23,8 @@ pub other_thread : (t u : ObjNo) → u ≢ t → is_thread u (Some t) ≡ false
 other_thread t u differ = not_holder u (Some t) (λ is. let one : t ≡ u = cc in differ (sym one))
 
 -- the thread that takes a fast mutex holds it
-pub held_by-take : (r : NanoRows) (t : ObjNo) (f : ℕ) → f < length r.holders → held_by r t ≡ None → held_by (record r { holders = set r.holders f (Some t) }) t ≡ Some f
+pub held_by-take : (r : NanoRows) (t : ObjNo) (f : ℕ) → f < length r.holders → held_by r t ≡ None
+    → held_by (record r { holders = set r.holders f (Some t) }) t ≡ Some f
 held_by-take r t f inside none =
     let after = set r.holders f (Some t) in
     let long = length-set r.holders f (Some t) in
@@ -37,7 +38,8 @@ held_by-take r t f inside none =
     rw (first, within) refl
 
 -- the thread that gives its fast mutex holds none
-pub held_by-give : (r : NanoRows) (t : ObjNo) (f : ℕ) → AreNanoRows r → f < length r.holders → holder_of r f ≡ Some t → held_by (record r { holders = set r.holders f None }) t ≡ None
+pub held_by-give : (r : NanoRows) (t : ObjNo) (f : ℕ) → AreNanoRows r → f < length r.holders → holder_of r f ≡ Some t
+    → held_by (record r { holders = set r.holders f None }) t ≡ None
 held_by-give r t f sound inside holds =
     let nobody : Option ObjNo = None in
     let after = set r.holders f nobody in
@@ -52,7 +54,9 @@ held_by-give r t f sound inside holds =
     rw (none, past) refl
 
 -- a thread that neither held the fast mutex nor holds it holds what it held
-pub held_by-other : (r : NanoRows) (u : ObjNo) (f : ℕ) (holder : Option ObjNo) → is_thread u holder ≡ is_thread u (holder_of r f) → held_by (record r { holders = set r.holders f holder }) u ≡ held_by r u
+pub held_by-other : (r : NanoRows) (u : ObjNo) (f : ℕ) (holder : Option ObjNo)
+    → is_thread u holder ≡ is_thread u (holder_of r f)
+    → held_by (record r { holders = set r.holders f holder }) u ≡ held_by r u
 held_by-other r u f holder same =
     let place = position_or_len-set (is_thread u) r.holders f holder None same in
     let long = length-set r.holders f holder in

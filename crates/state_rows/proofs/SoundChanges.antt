@@ -69,7 +69,8 @@ pub sound-resume_all : (r : NanoRows) (t : ObjNo) → AreNanoRows r → AreNanoR
 sound-resume_all r t sound = sound-suspensions r t 0 (omega arith) sound
 
 -- a fast mutex that a thread wants is one of the fast mutexes
-pub sound-want : (r : NanoRows) (t : ObjNo) (want : Option ℕ) → ((f : ℕ) → want ≡ Some f → f < length r.holders) → AreNanoRows r → AreNanoRows (after_want r t want)
+pub sound-want : (r : NanoRows) (t : ObjNo) (want : Option ℕ) → ((f : ℕ) → want ≡ Some f → f < length r.holders)
+    → AreNanoRows r → AreNanoRows (after_want r t want)
 sound-want r t want known sound = record {
   suspensions_sized = sound.suspensions_sized;
   sections_sized = sound.sections_sized;
@@ -82,7 +83,8 @@ sound-want r t want known sound = record {
 }
 
 -- a free fast mutex is taken by a thread that holds none
-pub sound-take : (r : NanoRows) (t : ObjNo) (f : ℕ) → t.0 < length r.signals → f < length r.holders → holder_of r f ≡ None → held_by r t ≡ None → AreNanoRows r → AreNanoRows (after_take r t f)
+pub sound-take : (r : NanoRows) (t : ObjNo) (f : ℕ) → t.0 < length r.signals → f < length r.holders
+    → holder_of r f ≡ None → held_by r t ≡ None → AreNanoRows r → AreNanoRows (after_take r t f)
 sound-take r t f known inside free none sound = rw free (sound_taken r t f sound known inside none)
 
 -- whoever holds a fast mutex then held it before

@@ -73,7 +73,8 @@ held_none r t f none is = elim (cases_lt f (length r.holders)) [
 ]
 
 -- a thread that holds none takes a fast mutex
-pub sound_taken : (r : NanoRows) (t : ObjNo) (f : ℕ) → AreNanoRows r → t.0 < length r.signals → f < length r.holders → held_by r t ≡ None → AreNanoRows (record r { holders = set r.holders f (Some t) })
+pub sound_taken : (r : NanoRows) (t : ObjNo) (f : ℕ) → AreNanoRows r → t.0 < length r.signals → f < length r.holders
+    → held_by r t ≡ None → AreNanoRows (record r { holders = set r.holders f (Some t) })
 sound_taken r t f sound known inside none = record {
   suspensions_sized = sound.suspensions_sized;
   sections_sized = sound.sections_sized;

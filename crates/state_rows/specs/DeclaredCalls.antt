@@ -30,4 +30,6 @@ place_of script d = record { queue = queue_named script d.queue; priority = d.pr
 
 -- nothing is queued, in the supervisor's queue and in each declared one; each thread has a burial
 abbrev pub calls_of : Script → DeferredRows
-calls_of script = new_calls (1 + length script.queues) (length script.idfcs) (map (place_of script) script.dfcs) (1 + length script.queues + length script.threads)
+calls_of script =
+    new_calls (1 + length script.queues) (length script.idfcs) (map (place_of script) script.dfcs)
+    (1 + length script.queues + length script.threads)

@@ -37,7 +37,11 @@ after_items r items = fold after_item r items
 
 -- the deferred call stands last in its queue, unless it is queued already
 abbrev pub after_add : DeferredRows → ℕ → DeferredRows
-after_add r dfc = record r { queues = if is_queued r (Move dfc) then r.queues else slice_set r.queues (queue_of r dfc) (queue_at r (queue_of r dfc) ++ dfc ∷ []) }
+after_add r dfc = record r {
+  queues =
+      if is_queued r (Move dfc) then r.queues else slice_set r.queues (queue_of r dfc)
+      (queue_at r (queue_of r dfc) ++ dfc ∷ []);
+}
 
 -- the oldest item is gone from the immediate queue
 abbrev pub after_next_idfc : DeferredRows → DeferredRows

@@ -48,7 +48,10 @@ waiters_after_lock queue t Again = queue
 waiters_after_lock queue t Waits = queue ++ t ∷ []
 
 abbrev pub after_lock : LockRows → ObjNo → ObjNo → Locked → LockRows
-after_lock r o t answer = record r { owners = slice_set r.owners o.0 (owner_after_lock (owner_at r o) t answer); waiters = slice_set r.waiters o.0 (waiters_after_lock (waiters_at r o) t answer) }
+after_lock r o t answer = record r {
+  owners = slice_set r.owners o.0 (owner_after_lock (owner_at r o) t answer);
+  waiters = slice_set r.waiters o.0 (waiters_after_lock (waiters_at r o) t answer);
+}
 
 -- a mutex whose last level goes is passed to the best waiter, or is free without one
 abbrev pub passed : Option ObjNo → Unlocked
@@ -76,7 +79,10 @@ waiters_after_unlock queue (Passed t) = without t queue
 waiters_after_unlock queue NotOwner = queue
 
 abbrev pub after_unlock : LockRows → ObjNo → Unlocked → LockRows
-after_unlock r o answer = record r { owners = slice_set r.owners o.0 (owner_after_unlock (owner_at r o) answer); waiters = slice_set r.waiters o.0 (waiters_after_unlock (waiters_at r o) answer) }
+after_unlock r o answer = record r {
+  owners = slice_set r.owners o.0 (owner_after_unlock (owner_at r o) answer);
+  waiters = slice_set r.waiters o.0 (waiters_after_unlock (waiters_at r o) answer);
+}
 
 -- some waiters without one, where there is one
 abbrev pub left : Option ObjNo → List ObjNo → List ObjNo
@@ -94,7 +100,10 @@ after_free r o best = record r { owners = slice_set r.owners o.0 (next_owner bes
 
 -- a count falls, or the thread stands last among the waiters
 abbrev pub after_wait : LockRows → ObjNo → ObjNo → LockRows
-after_wait r o t = record r { counts = slice_set r.counts o.0 (count_at r o - 1); waiters = slice_set r.waiters o.0 (if count_at r o == 0 then waiters_at r o ++ t ∷ [] else waiters_at r o) }
+after_wait r o t = record r {
+  counts = slice_set r.counts o.0 (count_at r o - 1);
+  waiters = slice_set r.waiters o.0 (if count_at r o == 0 then waiters_at r o ++ t ∷ [] else waiters_at r o);
+}
 
 -- the best waiter goes on; without one the count rises, unless it is the greatest
 abbrev pub signal_answer : Option ObjNo → ℕ → Signalled
@@ -116,7 +125,10 @@ waiters_after_signal queue (Woke t) = without t queue
 waiters_after_signal queue Overflow = queue
 
 abbrev pub after_signal : LockRows → ObjNo → Signalled → LockRows
-after_signal r o answer = record r { counts = slice_set r.counts o.0 (count_after_signal (count_at r o) answer); waiters = slice_set r.waiters o.0 (waiters_after_signal (waiters_at r o) answer) }
+after_signal r o answer = record r {
+  counts = slice_set r.counts o.0 (count_after_signal (count_at r o) answer);
+  waiters = slice_set r.waiters o.0 (waiters_after_signal (waiters_at r o) answer);
+}
 
 -- the thread waits for nothing
 abbrev pub after_remove : LockRows → ObjNo → LockRows

@@ -6,7 +6,13 @@ use Rattle.state_rows.specs.Nano.{signal_count, suspend_count, critical_count, i
 
 -- so many threads and fast mutexes: every count is 0, nobody wants a fast mutex, and nobody holds one
 abbrev pub new_rows : ℕ → ℕ → NanoRows
-new_rows threads fast = record { signals = replicate threads 0; suspensions = replicate threads 0; sections = replicate threads 0; wants = replicate threads None; holders = replicate fast None }
+new_rows threads fast = record {
+  signals = replicate threads 0;
+  suspensions = replicate threads 0;
+  sections = replicate threads 0;
+  wants = replicate threads None;
+  holders = replicate fast None;
+}
 
 -- the thread holds the fast mutex, where that was free
 abbrev pub after_take : NanoRows → ObjNo → ℕ → NanoRows

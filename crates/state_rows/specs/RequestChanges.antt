@@ -8,7 +8,12 @@ use Rattle.state_rows.specs.Requests.{pending, request_at, signal_count}
 
 -- so many threads and devices: no request, and every status and semaphore is 0
 abbrev pub new_rows : ℕ → ℕ → RequestRows
-new_rows threads devices = record { devices = replicate devices None; statuses = replicate threads (replicate 16 (pos 0)); signals = replicate threads 0; replies = replicate threads (pos 0) }
+new_rows threads devices = record {
+  devices = replicate devices None;
+  statuses = replicate threads (replicate 16 (pos 0));
+  signals = replicate threads 0;
+  replies = replicate threads (pos 0);
+}
 
 -- the device has the request, where it had none before
 abbrev pub after_begin : RequestRows → ℕ → ObjNo → ℕ → RequestRows

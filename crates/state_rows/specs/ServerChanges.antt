@@ -28,7 +28,11 @@ new_session server slots client = record { server = Some server; slots = slots; 
 -- the object is such a session, and no server; it stands behind the server's other sessions
 abbrev pub after_add_session : ServerRows → ObjNo → ObjNo → Slots → ObjNo → ServerRows
 after_add_session rows s server slots client =
-    record { servers = slice_set rows.servers s.0 None; sessions = slice_set rows.sessions s.0 (Some (new_session server slots client)); linked = slice_set rows.linked server.0 (linked_at rows server ++ s ∷ []) }
+    record {
+      servers = slice_set rows.servers s.0 None;
+      sessions = slice_set rows.sessions s.0 (Some (new_session server slots client));
+      linked = slice_set rows.linked server.0 (linked_at rows server ++ s ∷ []);
+    }
 
 -- the server is closing, with the owner that it had
 abbrev pub closing : ServerRow → ServerRow

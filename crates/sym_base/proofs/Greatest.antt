@@ -35,7 +35,8 @@ first_alone weight x = record {
 }
 
 -- a later one is where its weight is greater
-first_later : {A : Type 0} (weight : A → ℕ) (x z : A) (later : List A) → weight x < weight z → IsFirstOfGreatest weight later z → IsFirstOfGreatest weight (x ∷ later) z
+first_later : {A : Type 0} (weight : A → ℕ) (x z : A) (later : List A) → weight x < weight z
+    → IsFirstOfGreatest weight later z → IsFirstOfGreatest weight (x ∷ later) z
 first_later weight x z later above is = record {
   place = suc is.place;
   at = is.at;
@@ -44,15 +45,20 @@ first_later weight x z later above is = record {
 }
 
 -- and the first one is where no later one's is
-first_earlier : {A : Type 0} (weight : A → ℕ) (x z : A) (later : List A) → weight z ≤ weight x → IsFirstOfGreatest weight later z → IsFirstOfGreatest weight (x ∷ later) x
+first_earlier : {A : Type 0} (weight : A → ℕ) (x z : A) (later : List A) → weight z ≤ weight x
+    → IsFirstOfGreatest weight later z → IsFirstOfGreatest weight (x ∷ later) x
 first_earlier weight x z later below is = record {
   place = 0;
   at = refl;
-  greatest = All-cons (λ y. weight y ≤ weight x) x later (omega arith) (All-weaker (λ y. weight y ≤ weight z) (λ y. weight y ≤ weight x) (λ y h. omega arith) later is.greatest);
+  greatest =
+      All-cons (λ y. weight y ≤ weight x) x later (omega arith)
+      (All-weaker (λ y. weight y ≤ weight z) (λ y. weight y ≤ weight x) (λ y h. omega arith) later is.greatest);
   first = rw (eq-eqb (weight x) (weight x) refl) refl;
 }
 
-first_of : {A : Type 0} (weight : A → ℕ) (x : A) (later : List A) (o : Option A) (y : A) → first_of_greatest weight later ≡ o → ((z : A) → o ≡ Some z → IsFirstOfGreatest weight later z) → unless_greater weight x o ≡ Some y → IsFirstOfGreatest weight (x ∷ later) y
+first_of : {A : Type 0} (weight : A → ℕ) (x : A) (later : List A) (o : Option A) (y : A)
+    → first_of_greatest weight later ≡ o → ((z : A) → o ≡ Some z → IsFirstOfGreatest weight later z)
+    → unless_greater weight x o ≡ Some y → IsFirstOfGreatest weight (x ∷ later) y
 first_of weight x later None y none rest is =
     let same : x ≡ y = cc in
     let alone : IsFirstOfGreatest weight (x ∷ later) x = rw (none_greatest weight later none) (first_alone weight x) in
@@ -77,12 +83,14 @@ is_first_of_greatest weight (x ∷ later) y is =
     first_of weight x later (first_of_greatest weight later) y refl (λ z e. is_first_of_greatest weight later z e) is
 
 -- the choice among images is the image of the choice
-greater_map : {A B : Type 0} (weight : B → ℕ) (f : A → B) (x : A) (o : Option A) → unless_greater weight (f x) (option_map f o) ≡ option_map f (unless_greater (λ y. weight (f y)) x o)
+greater_map : {A B : Type 0} (weight : B → ℕ) (f : A → B) (x : A) (o : Option A)
+    → unless_greater weight (f x) (option_map f o) ≡ option_map f (unless_greater (λ y. weight (f y)) x o)
 greater_map weight f x None = refl
 greater_map weight f x (Some y) =
     elim (cases_Bool (ltb (weight (f x)) (weight (f y)))) [ inl above ↦ rw above refl | inr below ↦ rw below refl ]
 
-pub greatest_map : {A B : Type 0} (weight : B → ℕ) (f : A → B) (list : List A) → first_of_greatest weight (map f list) ≡ option_map f (first_of_greatest (λ x. weight (f x)) list)
+pub greatest_map : {A B : Type 0} (weight : B → ℕ) (f : A → B) (list : List A)
+    → first_of_greatest weight (map f list) ≡ option_map f (first_of_greatest (λ x. weight (f x)) list)
 greatest_map weight f [] = refl
 greatest_map weight f (x ∷ later) =
     ap (unless_greater weight (f x)) (greatest_map weight f later) ∙ greater_map weight f x (first_of_greatest (λ y. weight (f y)) later)

@@ -7,7 +7,8 @@ use Rattle.std.proofs.Math.Seq.{take-append_seam}
 use Rattle.sym_base.specs.NameText.{name_byte}
 use Rattle.sym_base.specs.Padded.{IsPadded}
 
-pub word_is_padded : (word : List ℕ) → length word ≤ 16 → IsTrue (list_all name_byte word) → IsPadded (word ++ drop (length word) (replicate 16 0)) (length word)
+pub word_is_padded : (word : List ℕ) → length word ≤ 16 → IsTrue (list_all name_byte word)
+    → IsPadded (word ++ drop (length word) (replicate 16 0)) (length word)
 word_is_padded word short text = record {
   short = short;
   size = rw take-append_seam refl;

@@ -13,5 +13,9 @@ pub record IsPadded (bytes : List ℕ) (len : ℕ) : Type 0 where
   pub text : IsTrue (list_all name_byte (take len bytes))
 
 -- the bytes come back from the name
-pub padded_again : (a : Inside) → IsPadded a.bytes a.len → record { bytes = take a.len a.bytes ++ replicate (16 - length (take a.len a.bytes)) 0; len = length (take a.len a.bytes) } ≡ a
+pub padded_again : (a : Inside) → IsPadded a.bytes a.len
+    → record {
+      bytes = take a.len a.bytes ++ replicate (16 - length (take a.len a.bytes)) 0;
+      len = length (take a.len a.bytes);
+    } ≡ a
 padded_again a h = rw (h.size, h.zeros) refl

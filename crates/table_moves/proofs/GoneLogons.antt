@@ -22,8 +22,10 @@ filter_both : {A : Type 0} (p q r : A → Bool) (xs : List A) → ((x : A) → (
 filter_both p q r [] h = refl
 filter_both {A = A} p q r (x ∷ xs) h = by (q x) (h x) (filter_both p q r xs h)
   where
-    by : (b : Bool) → (if b then p x else false) ≡ r x → filter p (filter q xs) ≡ filter r xs → filter p (if b then x ∷ filter q xs else filter q xs) ≡ (if r x then x ∷ filter r xs else filter r xs)
-    by true e later = ap (λ (b : Bool). if b then x ∷ filter p (filter q xs) else filter p (filter q xs)) e ∙ ap (λ (l : List A). if r x then x ∷ l else l) later
+    by : (b : Bool) → (if b then p x else false) ≡ r x → filter p (filter q xs) ≡ filter r xs
+        → filter p (if b then x ∷ filter q xs else filter q xs) ≡ (if r x then x ∷ filter r xs else filter r xs)
+    by true e later = ap (λ (b : Bool). if b then x ∷ filter p (filter q xs) else filter p (filter q xs)) e
+        ∙ ap (λ (l : List A). if r x then x ∷ l else l) later
     by false e later = later ∙ ap (λ (b : Bool). if b then x ∷ filter r xs else filter r xs) e
 
 -- none has a status below 0
@@ -58,10 +60,15 @@ below_more u s xs =
     (λ x. more_below (nat_lt x.1 s) (x.1 == s) (is_made_by u x) ∙ ap (λ (b : Bool). not (b && is_made_by u x)) (sym (lt_step x.1 s)))
 
 -- in the list of a thread, where that of another status goes too
-pub list_more : (lists : List (List (ObjNo × ℕ))) (t u : ObjNo) (s : ℕ) → t.0 < length lists → set (set lists t.0 (without_below u s (logons_on lists t))) t.0 (without_logon u s (logons_on (set lists t.0 (without_below u s (logons_on lists t))) t)) ≡ set lists t.0 (without_below u (s + 1) (logons_on lists t))
+pub list_more : (lists : List (List (ObjNo × ℕ))) (t u : ObjNo) (s : ℕ) → t.0 < length lists
+    → set (set lists t.0 (without_below u s (logons_on lists t))) t.0
+    (without_logon u s (logons_on (set lists t.0 (without_below u s (logons_on lists t))) t))
+    ≡ set lists t.0 (without_below u (s + 1) (logons_on lists t))
 list_more lists t u s inside =
     let these = without_below u s (logons_on lists t) in
-    set-set lists t.0 these _ ∙ ap (λ (l : List (ObjNo × ℕ)). set lists t.0 (without_logon u s l)) (get_or-set_same lists t.0 these [] inside) ∙ ap (set lists t.0) (below_more u s (logons_on lists t))
+    set-set lists t.0 these _
+    ∙ ap (λ (l : List (ObjNo × ℕ)). set lists t.0 (without_logon u s l)) (get_or-set_same lists t.0 these [] inside)
+    ∙ ap (set lists t.0) (below_more u s (logons_on lists t))
 
 -- and where none went yet
 pub list_none : (lists : List (List (ObjNo × ℕ))) (t u : ObjNo) → lists ≡ set lists t.0 (without_below u 0 (logons_on lists t))
@@ -73,7 +80,8 @@ none_is None is = refl
 none_is (Some x) is = absurd (cc)
 
 -- where a thread's list is empty, none is left of it
-pub none_here : (lists : List (List (ObjNo × ℕ))) (t u : ObjNo) → slice_get (logons_on lists t) 0 ≡ None → lists ≡ set lists t.0 (without_maker u (logons_on lists t))
+pub none_here : (lists : List (List (ObjNo × ℕ))) (t u : ObjNo) → slice_get (logons_on lists t) 0 ≡ None
+    → lists ≡ set lists t.0 (without_maker u (logons_on lists t))
 none_here lists t u none = by (logons_on lists t) refl none
   where
     by : (these : List (ObjNo × ℕ)) → logons_on lists t ≡ these → slice_get these 0 ≡ None → lists ≡ set lists t.0 (without_maker u (logons_on lists t))
@@ -89,7 +97,8 @@ none_of_both true = refl
 none_of_both false = refl
 
 -- those below 16, or a greater number, are all, where all that it made are below 16
-pub below_all : (u : ObjNo) (n : ℕ) (xs : List (ObjNo × ℕ)) → 16 ≤ n → ((s : ℕ) → 0 < total (logon_names u s) xs → s < 16) → without_below u n xs ≡ without_maker u xs
+pub below_all : (u : ObjNo) (n : ℕ) (xs : List (ObjNo × ℕ)) → 16 ≤ n
+    → ((s : ℕ) → 0 < total (logon_names u s) xs → s < 16) → without_below u n xs ≡ without_maker u xs
 below_all u n [] past few = refl
 below_all u n (x ∷ xs) past few =
     ap (λ (b : Bool). if b then x ∷ without_below u n xs else without_below u n xs) (here (is_made_by u x) refl)
@@ -109,14 +118,20 @@ counts_here u s (x ∷ rest) zero = omega arith
 counts_here u s (x ∷ rest) (suc i) = let later = counts_here u s rest i in omega arith
 
 -- a list that wasn't come to is as it was, and another is done then
-pub list_later : (f : List (ObjNo × ℕ) → List (ObjNo × ℕ)) (lists : List (List (ObjNo × ℕ))) (i : ℕ) (other : List (ObjNo × ℕ)) → i < length lists → get_or (map f (take i lists) ++ drop i lists) i other ≡ get_or lists i other
+pub list_later : (f : List (ObjNo × ℕ) → List (ObjNo × ℕ)) (lists : List (List (ObjNo × ℕ))) (i : ℕ)
+    (other : List (ObjNo × ℕ))
+    → i < length lists → get_or (map f (take i lists) ++ drop i lists) i other ≡ get_or lists i other
 list_later f lists i other inside =
     let front = map f (take i lists) in
     let long : length front ≡ i = length-map (take i lists) f ∙ omega (arith, length-take i lists) in
     ap (λ (l : List (List (ObjNo × ℕ))). get_or (front ++ l) i other) (drop_more lists i other inside) ∙ get_or_at front _ _ other i long
 
-pub list_done : (f : List (ObjNo × ℕ) → List (ObjNo × ℕ)) (lists : List (List (ObjNo × ℕ))) (i : ℕ) → i < length lists → set (map f (take i lists) ++ drop i lists) i (f (get_or (map f (take i lists) ++ drop i lists) i [])) ≡ map f (take (i + 1) lists) ++ drop (i + 1) lists
+pub list_done : (f : List (ObjNo × ℕ) → List (ObjNo × ℕ)) (lists : List (List (ObjNo × ℕ))) (i : ℕ) → i < length lists
+    → set (map f (take i lists) ++ drop i lists) i (f (get_or (map f (take i lists) ++ drop i lists) i []))
+    ≡ map f (take (i + 1) lists) ++ drop (i + 1) lists
 list_done f lists i inside =
     let now = map f (take i lists) ++ drop i lists in
     let these = get_or now i [] in
-    map_over_more f lists now i these inside refl (list_later f lists i [] inside ∙ (get_or_default lists i [] these inside ∙ sym (list_later f lists i these inside)))
+    map_over_more f lists now i these inside refl
+    (list_later f lists i [] inside ∙ (get_or_default lists i [] these inside
+    ∙ sym (list_later f lists i these inside)))

@@ -13,7 +13,8 @@ use Rattle.machine.specs.Rows.{owing, first_of}
 use Rattle.table_moves.specs.Noted.{AreNoted}
 
 -- what a thread uses is noted
-pub noted_at : (s : Lists) (threads : List (Option ThreadRow)) (t : ObjNo) → AreNoted s threads → get_or s.temporary t.0 None ≡ use_of_row (get_or threads t.0 None)
+pub noted_at : (s : Lists) (threads : List (Option ThreadRow)) (t : ObjNo) → AreNoted s threads
+    → get_or s.temporary t.0 None ≡ use_of_row (get_or threads t.0 None)
 noted_at s threads t noted = ap (λ (l : List (Option ObjNo)). get_or l t.0 None) noted ∙ each-map use_of_row threads t.0 None
 
 -- more of what threads owe
@@ -27,7 +28,9 @@ module _ (owed : List (List Owed)) (t : ObjNo) where
   pub owing_both : (one more : List Owed) → owing (owing owed t one) t more ≡ owing owed t (one ++ more)
   owing_both one more = elim (cases_lt t.0 (length owed)) [
     | inl inside ↦
-        set-set owed t.0 _ _ ∙ ap (set owed t.0) (ap (λ (l : List Owed). l ++ more) (get_or-set_same owed t.0 (get_or owed t.0 [] ++ one) [] inside) ∙ append_assoc (get_or owed t.0 []) one more)
+        set-set owed t.0 _ _
+        ∙ ap (set owed t.0) (ap (λ (l : List Owed). l ++ more)
+        (get_or-set_same owed t.0 (get_or owed t.0 [] ++ one) [] inside) ∙ append_assoc (get_or owed t.0 []) one more)
     | inr past ↦
         let long : length (owing owed t one) ≤ t.0 = omega (arith, length-set owed t.0 (get_or owed t.0 [] ++ one)) in
         set_past (owing owed t one) t.0 _ long ∙ (set_past owed t.0 _ past ∙ sym (set_past owed t.0 _ past))

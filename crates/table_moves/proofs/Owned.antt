@@ -25,11 +25,13 @@ drop_end (y ∷ xs) zero at = absurd (cc)
 drop_end (y ∷ xs) (suc k) at = drop_end xs k at
 
 -- so where that fails a test, the first that passes stands behind it
-pub rest_apart : {A : Type 0} (test : A → Bool) (xs : List A) (k : ℕ) (x : A) → slice_get xs k ≡ Some x → test x ≡ false → find test (drop k xs) ≡ find test (drop (k + 1) xs)
+pub rest_apart : {A : Type 0} (test : A → Bool) (xs : List A) (k : ℕ) (x : A) → slice_get xs k ≡ Some x → test x ≡ false
+    → find test (drop k xs) ≡ find test (drop (k + 1) xs)
 rest_apart test xs k x at apart = ap (find test) (drop_at xs k x at) ∙ rw (apart, add-one) refl
 
 -- and where each comes to close, those behind it do once it is closing
-pub rest_closes : (xs : List ObjNo) (k : ℕ) (x : ObjNo) (r : ServerRows) → slice_get xs k ≡ Some x → all_closing (drop k xs) r ≡ all_closing (drop (k + 1) xs) (after_closing r x)
+pub rest_closes : (xs : List ObjNo) (k : ℕ) (x : ObjNo) (r : ServerRows) → slice_get xs k ≡ Some x
+    → all_closing (drop k xs) r ≡ all_closing (drop (k + 1) xs) (after_closing r x)
 rest_closes xs k x r at = ap (λ (os : List ObjNo). all_closing os r) (drop_at xs k x at) ∙ rw add-one refl
 
 -- it is one of the list
@@ -57,7 +59,8 @@ some_map : {A : Type 0} (f : A → A) (x : Option A) → is_some (option_map f x
 some_map f None = refl
 some_map f (Some x) = refl
 
-some_kept : {A : Type 0} (f : A → A) (xs : List (Option A)) (i k : ℕ) → is_some (get_or (set xs i (option_map f (get_or xs i None))) k None) ≡ is_some (get_or xs k None)
+some_kept : {A : Type 0} (f : A → A) (xs : List (Option A)) (i k : ℕ)
+    → is_some (get_or (set xs i (option_map f (get_or xs i None))) k None) ≡ is_some (get_or xs k None)
 some_kept f [] i k = refl
 some_kept f (x ∷ xs) zero zero = some_map f x
 some_kept f (x ∷ xs) zero (suc k) = refl
@@ -75,6 +78,9 @@ same_row (Some row) is = ap (λ (server : Option ObjNo). Some (record row { serv
 pub detached_none : (r : ServerRows) (s : ObjNo) → server_of r s ≡ None → after_detach r s ≡ r
 detached_none r s is =
     let row = same_row (get_or r.sessions s.0 None) is in
-    let sessions : set r.sessions s.0 (option_map detached (get_or r.sessions s.0 None)) ≡ r.sessions = ap (set r.sessions s.0) row ∙ set-get_or r.sessions s.0 None in
+    let sessions : set r.sessions s.0 (option_map detached (get_or r.sessions s.0 None)) ≡ r.sessions =
+    ap (set r.sessions s.0) row ∙ set-get_or r.sessions s.0 None in
     let linked : unlisted (server_of r s) s r.linked ≡ r.linked = ap (λ (server : Option ObjNo). unlisted server s r.linked) is in
-    ap (λ (rows : List (Option SessionRow)). let made : ServerRows = record r { sessions = rows; linked = unlisted (server_of r s) s r.linked } in made) sessions ∙ ap (λ (lists : List (List ObjNo)). let made : ServerRows = record r { linked = lists } in made) linked
+    ap (λ (rows : List (Option SessionRow)). let made : ServerRows = record r
+    { sessions = rows; linked = unlisted (server_of r s) s r.linked } in made) sessions
+    ∙ ap (λ (lists : List (List ObjNo)). let made : ServerRows = record r { linked = lists } in made) linked

@@ -11,7 +11,8 @@ use Rattle.machine.specs.Rows.{with_row}
 use Rattle.table_moves.specs.ThreadRows.{with_threads}
 
 -- the row of a thread changes
-pub row_set : (rows : ProcsRows) (t : ObjNo) (f : ThreadRow → ThreadRow) → IsTrue (is_thread rows t) → with_one rows t (f (row_of rows t)) ≡ with_threads rows (with_row rows.threads t f)
+pub row_set : (rows : ProcsRows) (t : ObjNo) (f : ThreadRow → ThreadRow) → IsTrue (is_thread rows t)
+    → with_one rows t (f (row_of rows t)) ≡ with_threads rows (with_row rows.threads t f)
 row_set rows t f there = by_row (get_or rows.threads t.0 None) refl
   where
     by_row : (x : Option ThreadRow) → get_or rows.threads t.0 None ≡ x → with_one rows t (f (row_of rows t)) ≡ with_threads rows (with_row rows.threads t f)
@@ -28,7 +29,8 @@ row_none rows t f none = by_row (get_or rows.threads t.0 None) refl
     by_row : (x : Option ThreadRow) → get_or rows.threads t.0 None ≡ x → rows ≡ with_threads rows (with_row rows.threads t f)
     by_row (Some row) is = let clash : true ≡ false = ap (λ (x : Option ThreadRow). is_some x) (sym is) ∙ none in absurd (cc)
     by_row None is =
-        ap (with_threads rows) (sym (ap (λ (x : Option ThreadRow). set rows.threads t.0 (option_map f x)) is ∙ (ap (set rows.threads t.0) (sym is) ∙ set-get_or rows.threads t.0 None)))
+        ap (with_threads rows) (sym (ap (λ (x : Option ThreadRow). set rows.threads t.0 (option_map f x)) is
+        ∙ (ap (set rows.threads t.0) (sym is) ∙ set-get_or rows.threads t.0 None)))
 
 -- a thread that is there has a row
 pub record HasRow (x : Option ThreadRow) : Type 0 where

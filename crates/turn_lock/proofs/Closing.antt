@@ -41,7 +41,8 @@ module _ {V B : Type 0} (entries : V → List Entry) (base_in : V → B) (base :
   Rule = Kept entries base_in base count
 
   -- a view that knows for none of the callers doesn't keep the slot
-  keeps_none : (s : St) (r : Rule s) (u : View B) → Fits entries base_in base count s.homes r.log r.next r.serving u → ((caller : ℕ) → caller < count → times_of caller u ≡ 0) → keeps_slot u ≡ 0
+  keeps_none : (s : St) (r : Rule s) (u : View B) → Fits entries base_in base count s.homes r.log r.next r.serving u
+      → ((caller : ℕ) → caller < count → times_of caller u ≡ 0) → keeps_slot u ≡ 0
   keeps_none s r (Free all) f h = refl
   keeps_none s r (Drawn x a) f h = refl
   keeps_none s r (Up x a) f h = refl
@@ -50,14 +51,19 @@ module _ {V B : Type 0} (entries : V → List Entry) (base_in : V → B) (base :
   keeps_none s r (Left x a gain) f h = let z = h a.caller f.knows.0.numbered in let o = one_if-same a.caller a.caller refl in absurd (omega arith)
 
   -- where one view knows for all callers, the value is in the slot
-  pub there_at_last : (s : St) (r : Rule s) (id : ℕ) (all : List (Sight B)) → get_elem? s.views id ≡ some (Free all) → ((caller : ℕ) → caller < count → 1 ≤ times_of caller (Free all))
+  pub there_at_last : (s : St) (r : Rule s) (id : ℕ) (all : List (Sight B)) → get_elem? s.views id ≡ some (Free all)
+      → ((caller : ℕ) → caller < count → 1 ≤ times_of caller (Free all))
       → IsThere entries base_in base count s.homes (entries_of r.log)
   there_at_last s r id all at covers = r.there (total_none keeps_slot s.views (λ j u e. dite (ℕ_discrete j id)
       (λ same. ap keeps_slot (some-injective u (Free all) (sym e ∙ (ap (λ i. get_elem? s.views i) same ∙ at))))
-      (λ other. keeps_none s r u (r.each j u e) (λ caller low. (let t = total_two (times_of caller) s.views id j (Free all) u other at e in let o = r.once caller in let c = covers caller low in omega arith)))))
+      (λ other. keeps_none s r u (r.each j u e)
+      (λ caller low. (let t = total_two (times_of caller) s.views id j (Free all) u other at e in
+      let o = r.once caller in let c = covers caller low in omega arith)))))
 
   -- what the passes know fits the whole log
-  pub whole_at_last : (lock : LockId B) (s : St) (r : Rule s) (id : ℕ) (ps : List (Pass B)) → get_elem? s.views id ≡ some (Free (map (sight_of lock) ps)) → ((caller : ℕ) → caller < count → Contains (map caller_of ps) caller)
+  pub whole_at_last : (lock : LockId B) (s : St) (r : Rule s) (id : ℕ) (ps : List (Pass B))
+      → get_elem? s.views id ≡ some (Free (map (sight_of lock) ps))
+      → ((caller : ℕ) → caller < count → Contains (map caller_of ps) caller)
       → IsWhole ps r.log
   whole_at_last lock s r id ps at all = let knows = (r.each id (Free (map (sight_of lock) ps)) at).knows in record {
     begins = all_mapped (sight_of lock) (Knows entries base_in base count r.log) (λ p. Begins (known_of p) r.log) (λ p k. k.known) ps knows;
@@ -74,8 +80,10 @@ module _ {V B : Type 0} (entries : V → List Entry) (base_in : V → B) (base :
     pub list : entries value ≡ entries_of log
     pub whole : IsWhole ps log
 
-  pub came : (lock : LockId B) → lock.base ≡ base → lock.passes ≡ count → (ps : List (Pass B)) (id : ℕ) (me : Mine V B) → me ≡ (Free (map (sight_of lock) ps), [])
-      → ((caller : ℕ) → caller < lock.passes → Contains (map caller_of ps) caller) → (words : List ℕ) (slots : List (Option V)) → Final (Seen Rule id me.0) words slots
+  pub came : (lock : LockId B) → lock.base ≡ base → lock.passes ≡ count → (ps : List (Pass B)) (id : ℕ) (me : Mine V B)
+      → me ≡ (Free (map (sight_of lock) ps), [])
+      → ((caller : ℕ) → caller < lock.passes → Contains (map caller_of ps) caller)
+      → (words : List ℕ) (slots : List (Option V)) → Final (Seen Rule id me.0) words slots
       → (slot : Option V) → get_elem? slots 0 ≡ some slot → Came lock ps slot
   came lock b n ps id me e all words slots final slot found =
       let s : St = final.0 in let r : Rule s = final.1.0 in

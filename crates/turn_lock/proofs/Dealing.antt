@@ -11,7 +11,8 @@ use Rattle.turn_lock.specs.declared.view.View.TheVariants.{Free}
 use Rattle.turn_lock.specs.Views.{sight, newcomers}
 use Rattle.turn_lock.specs.Passes.{numbers}
 
-newcomers_next : {B : Type 0} (base : B) (passes i n : ℕ) → i < n → newcomers base passes i (n - i) ≡ sight base passes i [] ∷ newcomers base passes (i + 1) (n - (i + 1))
+newcomers_next : {B : Type 0} (base : B) (passes i n : ℕ) → i < n
+    → newcomers base passes i (n - i) ≡ sight base passes i [] ∷ newcomers base passes (i + 1) (n - (i + 1))
 newcomers_next base passes i n h = let e : n - i ≡ suc (n - (i + 1)) = omega arith in ap (newcomers base passes i) e
 
 -- a seat that knows for the callers from one on knows for that one and for the others
@@ -25,10 +26,14 @@ numbers_after from (suc n) = let e : (from + 1) + n ≡ from + suc n = omega ari
     ap (λ l. from ∷ l) (numbers_after (from + 1) n ∙ ap (λ (k : ℕ). numbers (from + 1) n ++ k ∷ []) e)
 
 pub numbers_next : (n : ℕ) → numbers 0 (n + 1) ≡ numbers 0 n ++ n ∷ []
-numbers_next n = let e : n + 1 ≡ suc n = omega arith in let z : 0 + n ≡ n = omega arith in ap (numbers 0) e ∙ (numbers_after 0 n ∙ ap (λ (k : ℕ). numbers 0 n ++ k ∷ []) z)
+numbers_next n =
+    let e : n + 1 ≡ suc n = omega arith in
+    let z : 0 + n ≡ n = omega arith in
+    ap (numbers 0) e ∙ (numbers_after 0 n ∙ ap (λ (k : ℕ). numbers 0 n ++ k ∷ []) z)
 
 module _ {A : Type 0} where
-  pub mapped_next : {C : Type 0} (f : A → C) (xs ys : List A) (p : A) (fs : List C) (c : C) → ys ≡ xs ++ p ∷ [] → map f xs ≡ fs → f p ≡ c → map f ys ≡ fs ++ c ∷ []
+  pub mapped_next : {C : Type 0} (f : A → C) (xs ys : List A) (p : A) (fs : List C) (c : C) → ys ≡ xs ++ p ∷ []
+      → map f xs ≡ fs → f p ≡ c → map f ys ≡ fs ++ c ∷ []
   mapped_next f xs ys p fs c e h k = ap (map f) e ∙ (map-append f xs (p ∷ []) ∙ (λ i. h i ++ k i ∷ []))
 
   pub popped : (xs ys : List A) (r : Option A) (p : A) → xs ≡ ys ++ option_to_list r → r ≡ Some p → xs ≡ ys ++ p ∷ []
@@ -37,8 +42,11 @@ module _ {A : Type 0} where
   pub popped_all : (P : A → Type 0) (xs ys : List A) (r : Option A) (p : A) → xs ≡ ys ++ option_to_list r → r ≡ Some p → All P xs → All P ys × P p
   popped_all P xs ys r p e is all = let a = All-pop P xs ys r e all in (a.0, subst (λ (o : Option A). IfSome o P) is a.1)
 
-  pub gathered : {C : Type 0} (f : A → C) (xs ys : List A) (p : A) (known all : List C) → xs ≡ ys ++ p ∷ [] → map f xs ++ known ≡ all → map f ys ++ (f p ∷ known) ≡ all
-  gathered f xs ys p known all e h = sym (append_assoc (map f ys) (f p ∷ []) known) ∙ (ap (λ l. l ++ known) (sym (map-append f ys (p ∷ [])) ∙ ap (map f) (sym e)) ∙ h)
+  pub gathered : {C : Type 0} (f : A → C) (xs ys : List A) (p : A) (known all : List C) → xs ≡ ys ++ p ∷ []
+      → map f xs ++ known ≡ all → map f ys ++ (f p ∷ known) ≡ all
+  gathered f xs ys p known all e h =
+      sym (append_assoc (map f ys) (f p ∷ []) known)
+      ∙ (ap (λ l. l ++ known) (sym (map-append f ys (p ∷ [])) ∙ ap (map f) (sym e)) ∙ h)
 
 number_at : (from n k d : ℕ) → k < n → get_or (numbers from n) k d ≡ from + k
 number_at from zero k d h = absurd (omega arith)
@@ -55,7 +63,8 @@ contains_number xs n k e h = let l : length xs ≡ n = ap length e ∙ length_nu
     (k, omega arith, ap (λ (ys : List ℕ). get_or ys k k) e ∙ (number_at 0 n k k h ∙ z))
 
 -- passes that have the callers of others, place by place, have the same callers
-pub mapped_each : {A D : Type 0} (f : A → D) (xs ys : List A) → length ys ≡ length xs → ((i : ℕ) (d : A) → i < length xs → f (get_or ys i d) ≡ f (get_or xs i d)) → map f ys ≡ map f xs
+pub mapped_each : {A D : Type 0} (f : A → D) (xs ys : List A) → length ys ≡ length xs
+    → ((i : ℕ) (d : A) → i < length xs → f (get_or ys i d) ≡ f (get_or xs i d)) → map f ys ≡ map f xs
 mapped_each f [] [] e h = refl
 mapped_each f [] (y ∷ ys) e h = absurd (omega arith)
 mapped_each f (x ∷ xs) [] e h = absurd (omega arith)

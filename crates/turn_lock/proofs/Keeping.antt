@@ -50,13 +50,17 @@ module _ {V B : Type 0} where
     FitsAt = Fits entries base_in base count
 
     -- a caller knows still what it knew once others made entries
-    knows_longer : (log : List Logged) (n : ℕ) (es : List Entry) (a : Sight B) → a.caller ≢ n → Knows entries base_in base count log a → Knows entries base_in base count (log ++ under n es) a
+    knows_longer : (log : List Logged) (n : ℕ) (es : List Entry) (a : Sight B) → a.caller ≢ n
+        → Knows entries base_in base count log a → Knows entries base_in base count (log ++ under n es) a
     knows_longer log n es a other k = record {
       base_is = k.base_is;
       passes_are = k.passes_are;
       numbered = k.numbered;
       known = begins_on a.known log (log ++ under n es) k.known (begins_longer log (under n es));
-      own = made_by-append a.caller log (under n es) ∙ (ap (λ l. made_by a.caller log ++ l) (made_by-under_other a.caller n es other) ∙ (append-nil (made_by a.caller log) ∙ k.own));
+      own =
+          made_by-append a.caller log (under n es)
+          ∙ (ap (λ l. made_by a.caller log ++ l) (made_by-under_other a.caller n es other)
+          ∙ (append-nil (made_by a.caller log) ∙ k.own));
     }
 
     pub each_longer : (log : List Logged) (n : ℕ) (es : List Entry) (ss : List (Sight B)) → total (λ a. one_if (eqb a.caller n)) ss ≡ 0
@@ -70,7 +74,8 @@ module _ {V B : Type 0} where
     few_out s r = let a = total_le is_drawn callers_in fewer_drawn s.views in let b = r.known_for in let c = r.few in let d = r.drawn in omega arith
 
     -- the state once one view has changed
-    pub changed : (s : St) (r : Rule s) (id : ℕ) (v w : View B) → get_elem? s.views id ≡ some v → (words : List ℕ) (homes : List (Home (Option V))) (log : List Logged) (next serving : ℕ)
+    pub changed : (s : St) (r : Rule s) (id : ℕ) (v w : View B) → get_elem? s.views id ≡ some v
+        → (words : List ℕ) (homes : List (Home (Option V))) (log : List Logged) (next serving : ℕ)
         → words ≡ next % 2 ^ 64 ∷ serving % 2 ^ 64 ∷ [] → SameCallers v w
         → ((ticket : ℕ) → total (has_ticket ticket) (set s.views id w) ≤ 1)
         → serving + total is_drawn (set s.views id w) ≡ next
@@ -90,7 +95,9 @@ module _ {V B : Type 0} where
       apart = apart;
       drawn = drawn;
       there = there;
-      each = λ j u e. ⊎_elim (λ (t : (j ≡ id) × (w ≡ u)). subst (FitsAt homes log next serving) t.1 mine) (λ (t : (j ≢ id) × (get_elem? s.views j ≡ some u)). others j u t.0 t.1)
+      each =
+          λ j u e. ⊎_elim (λ (t : (j ≡ id) × (w ≡ u)). subst (FitsAt homes log next serving) t.1 mine)
+          (λ (t : (j ≢ id) × (get_elem? s.views j ≡ some u)). others j u t.0 t.1)
           (at_set s.views id j w u e);
       made = made;
     }
@@ -101,7 +108,8 @@ module _ {V B : Type 0} where
     others_wait s r id v at mine j u n e = let t = total_two (has_ticket r.serving) s.views id j v u n at e in let a = r.apart r.serving in omega arith
 
     -- a view whose number doesn't have its turn doesn't keep the slot
-    pub slot_elsewhere : (homes : List (Home (Option V))) (log : List Logged) (next serving : ℕ) (u : View B) → FitsAt homes log next serving u → has_ticket serving u ≡ 0 → keeps_slot u ≡ 0
+    pub slot_elsewhere : (homes : List (Home (Option V))) (log : List Logged) (next serving : ℕ) (u : View B)
+        → FitsAt homes log next serving u → has_ticket serving u ≡ 0 → keeps_slot u ≡ 0
     slot_elsewhere homes log next serving (Free all) f h = refl
     slot_elsewhere homes log next serving (Drawn x a) f h = refl
     slot_elsewhere homes log next serving (Up x a) f h = refl
@@ -110,7 +118,8 @@ module _ {V B : Type 0} where
     slot_elsewhere homes log next serving (Left x a gain) f h = let e = one_if-same x serving f.stands.0.turn in absurd (omega arith)
 
     -- a view fits still once a further number is drawn
-    pub fits_later : (homes : List (Home (Option V))) (log : List Logged) (next serving : ℕ) (u : View B) → FitsAt homes log next serving u → FitsAt homes log (next + 1) serving u
+    pub fits_later : (homes : List (Home (Option V))) (log : List Logged) (next serving : ℕ) (u : View B)
+        → FitsAt homes log next serving u → FitsAt homes log (next + 1) serving u
     fits_later homes log next serving (Free all) f = record { knows = f.knows; stands = tt }
     fits_later homes log next serving (Drawn x a) f = let s = f.stands in record { knows = f.knows; stands = (s.0, omega (arith, s.1)) }
     fits_later homes log next serving (Up x a) f = record { knows = f.knows; stands = f.stands }
@@ -119,7 +128,8 @@ module _ {V B : Type 0} where
     fits_later homes log next serving (Left x a gain) f = record { knows = f.knows; stands = f.stands }
 
     -- a view whose number doesn't have its turn fits still, whatever the slot is, if what it knows does, also where the next number has its turn
-    pub fits_aside : (homes homes' : List (Home (Option V))) (log log' : List Logged) (next serving serving' : ℕ) (u : View B) → FitsAt homes log next serving u → has_ticket serving u ≡ 0
+    pub fits_aside : (homes homes' : List (Home (Option V))) (log log' : List Logged) (next serving serving' : ℕ)
+        (u : View B) → FitsAt homes log next serving u → has_ticket serving u ≡ 0
         → serving' ≤ serving + 1 → Each (Knows entries base_in base count log') (sights u) → FitsAt homes' log' next serving' u
     fits_aside homes homes' log log' next serving serving' (Free all) f h up k = record { knows = k; stands = tt }
     fits_aside homes homes' log log' next serving serving' (Drawn x a) f h up k = let s = f.stands in

@@ -9,4 +9,10 @@ module _ {B : Type 0} where
   knows_itself a = record { base = refl; passes = refl; caller = refl; known = begins_itself a.known; own = refl }
 
   pub knows_on : (a b c : Sight B) → KnowsMore a b → KnowsMore b c → KnowsMore a c
-  knows_on a b c k l = record { base = l.base ∙ k.base; passes = l.passes ∙ k.passes; caller = l.caller ∙ k.caller; known = begins_on a.known b.known c.known k.known l.known; own = l.own ∙ k.own }
+  knows_on a b c k l = record {
+    base = l.base ∙ k.base;
+    passes = l.passes ∙ k.passes;
+    caller = l.caller ∙ k.caller;
+    known = begins_on a.known b.known c.known k.known l.known;
+    own = l.own ∙ k.own;
+  }

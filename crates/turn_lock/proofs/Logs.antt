@@ -37,7 +37,9 @@ module _ {A : Type 0} where
 
 pub made_by-append : (n : ℕ) (xs ys : List Logged) → made_by n (xs ++ ys) ≡ made_by n xs ++ made_by n ys
 made_by-append n [] ys = refl
-made_by-append n (x ∷ xs) ys = ap (λ l. entry_if (eqb x.caller n) x.entry ++ l) (made_by-append n xs ys) ∙ sym (append_assoc (entry_if (eqb x.caller n) x.entry) (made_by n xs) (made_by n ys))
+made_by-append n (x ∷ xs) ys =
+    ap (λ l. entry_if (eqb x.caller n) x.entry ++ l) (made_by-append n xs ys)
+    ∙ sym (append_assoc (entry_if (eqb x.caller n) x.entry) (made_by n xs) (made_by n ys))
 
 pub made_by-under : (n : ℕ) (es : List Entry) → made_by n (under n es) ≡ es
 made_by-under n [] = refl

@@ -36,10 +36,16 @@ module _ {B : Type 0} (lock : LockId B) (p : Pass B) (a : Sight B) where
   sight_is views b n s i = sight (b i) (n i) (sym s.caller i) (sym s.known i)
 
   pub free_shows : p.badge.views ≡ Free (a ∷ []) ∷ [] → Shows
-  free_shows e = record { caller = ap (λ (vs : List (View B)). caller_of (record p { badge = record p.badge { views = vs } })) e; known = ap (λ (vs : List (View B)). known_of (record p { badge = record p.badge { views = vs } })) e }
+  free_shows e = record {
+    caller = ap (λ (vs : List (View B)). caller_of (record p { badge = record p.badge { views = vs } })) e;
+    known = ap (λ (vs : List (View B)). known_of (record p { badge = record p.badge { views = vs } })) e;
+  }
 
   pub lent_shows : (x : ℕ) → p.badge.views ≡ Lent x a ∷ [] → Shows
-  lent_shows x e = record { caller = ap (λ (vs : List (View B)). caller_of (record p { badge = record p.badge { views = vs } })) e; known = ap (λ (vs : List (View B)). known_of (record p { badge = record p.badge { views = vs } })) e }
+  lent_shows x e = record {
+    caller = ap (λ (vs : List (View B)). caller_of (record p { badge = record p.badge { views = vs } })) e;
+    known = ap (λ (vs : List (View B)). known_of (record p { badge = record p.badge { views = vs } })) e;
+  }
 
   pub is_free : p.badge.table_id ≡ lock.table → p.badge.views ≡ Free (a ∷ []) ∷ [] → a.base ≡ lock.base → a.passes ≡ lock.passes → IsFree lock p
   is_free t e b n = record { table = t; views = e ∙ ap (λ (c : Sight B). Free (c ∷ []) ∷ []) (sight_is p.badge.views b n (free_shows e)) }
@@ -57,7 +63,8 @@ pub record Entered {B : Type 0} (lock : LockId B) (old new : Pass B) (b : Sight 
   pub shown : known_of new ≡ b.known
   pub base : b.base ≡ lock.base
 
-pub entered : {B : Type 0} (lock : LockId B) (old new : Pass B) (b : Sight B) (x : ℕ) → KnowsMore (sight_of lock old) b → MadeBelow b.passes b.known → new.badge.table_id ≡ lock.table
+pub entered : {B : Type 0} (lock : LockId B) (old new : Pass B) (b : Sight B) (x : ℕ) → KnowsMore (sight_of lock old) b
+    → MadeBelow b.passes b.known → new.badge.table_id ≡ lock.table
     → new.badge.views ≡ Lent x b ∷ [] → Entered lock old new b
 entered lock old new b x more made t e = let s = lent_shows lock new b x e in record {
   turn = is_in_turn lock new b x t e more.base more.passes;
@@ -81,15 +88,21 @@ pub record LeftWith {B : Type 0} (lock : LockId B) (old new : Pass B) (gain : Li
 pub left_with : {B : Type 0} (lock : LockId B) (old new : Pass B) (gain : List Entry) → new.badge.table_id ≡ lock.table
     → new.badge.views ≡ Free (sight lock.base lock.passes (caller_of old) (known_of old ++ under (caller_of old) gain) ∷ []) ∷ []
     → MadeBelow lock.passes (known_of old ++ under (caller_of old) gain) → LeftWith lock old new gain
-left_with lock old new gain t e made = let all : List Logged = known_of old ++ under (caller_of old) gain in let s = free_shows lock new (sight lock.base lock.passes (caller_of old) all) e in record {
-  free = is_free lock new (sight lock.base lock.passes (caller_of old) all) t e refl refl;
-  caller = s.caller;
-  known = s.known;
-  own = (λ i. made_by (s.caller i) (s.known i))
-      ∙ (made_by-append (caller_of old) (known_of old) (under (caller_of old) gain) ∙ ap (λ l. own_of old ++ l) (made_by-under (caller_of old) gain));
-  list = ap entries_of s.known ∙ (entries_of-append (known_of old) (under (caller_of old) gain) ∙ ap (λ l. entries_of (known_of old) ++ l) (entries_of-under (caller_of old) gain));
-  made = subst (MadeBelow lock.passes) (sym s.known) made;
-}
+left_with lock old new gain t e made =
+    let all : List Logged = known_of old ++ under (caller_of old) gain in
+    let s = free_shows lock new (sight lock.base lock.passes (caller_of old) all) e in
+    record {
+      free = is_free lock new (sight lock.base lock.passes (caller_of old) all) t e refl refl;
+      caller = s.caller;
+      known = s.known;
+      own = (λ i. made_by (s.caller i) (s.known i))
+          ∙ (made_by-append (caller_of old) (known_of old) (under (caller_of old) gain) ∙ ap (λ l. own_of old ++ l) (made_by-under (caller_of old) gain));
+      list =
+          ap entries_of s.known
+          ∙ (entries_of-append (known_of old) (under (caller_of old) gain)
+          ∙ ap (λ l. entries_of (known_of old) ++ l) (entries_of-under (caller_of old) gain));
+      made = subst (MadeBelow lock.passes) (sym s.known) made;
+    }
 
 -- what two passes that have met know
 pub record HaveMet {B : Type 0} (lock : LockId B) (one other new answered : Pass B) : Type 0 where
@@ -132,10 +145,12 @@ have_met lock one other new answered met t e t' e' = let all : List Logged = lon
 
 -- what two seats know together, and the shares that it is cut into
 module _ {S B : Type 0} where
-  pub joined : (me them new : Me S (View B)) (one all : List (Sight B)) → me ≡ (Free one, []) → them ≡ (Free all, []) → new ≡ (both_of me.0 them.0, me.1) → new ≡ (Free (one ++ all), [])
+  pub joined : (me them new : Me S (View B)) (one all : List (Sight B)) → me ≡ (Free one, []) → them ≡ (Free all, [])
+      → new ≡ (both_of me.0 them.0, me.1) → new ≡ (Free (one ++ all), [])
   joined me them new one all e f h = h ∙ (λ i. (both_of (e i).0 (f i).0, (e i).1))
 
-  pub cut_first : (me new : Me S (View B)) (a : Sight B) (all : List (Sight B)) → me ≡ (Free (a ∷ all), []) → new ≡ (first_of me.0, me.1) → new ≡ (Free (a ∷ []), [])
+  pub cut_first : (me new : Me S (View B)) (a : Sight B) (all : List (Sight B)) → me ≡ (Free (a ∷ all), [])
+      → new ≡ (first_of me.0, me.1) → new ≡ (Free (a ∷ []), [])
   cut_first me new a all e h = h ∙ (λ i. (first_of (e i).0, (e i).1))
 
   pub cut_others : (me new : Me S (View B)) (a : Sight B) (all : List (Sight B)) → me ≡ (Free (a ∷ all), []) → new ≡ (others_of me.0, []) → new ≡ (Free all, [])

@@ -41,14 +41,17 @@ each_held-append : (all : List Born) (n m : ℕ) (xs ys : List Born) → m ≡ n
 each_held-append all n m [] ys e h k = let at : m ≡ n = omega arith in subst (λ (i : ℕ). EachHeld all i ys) at k
 each_held-append all n m (x ∷ xs) ys e h k = (h.0, each_held-append all (n + 1) m xs ys (omega arith) h.1 k)
 
-each_held_step : (all : List Born) (n p k : ℕ) (d : ThreadDecl) (rest : List Born) (own : Bool) → ((m : ℕ) → EachHeld all m rest) → EachHeld all n (if own then born_thread p k d ∷ rest else rest)
+each_held_step : (all : List Born) (n p k : ℕ) (d : ThreadDecl) (rest : List Born) (own : Bool)
+    → ((m : ℕ) → EachHeld all m rest) → EachHeld all n (if own then born_thread p k d ∷ rest else rest)
 each_held_step all n p k d rest true more = (omega arith, more (n + 1))
 each_held_step all n p k d rest false more = more n
 
 -- the kernel holds each thread
 each_held_threads : (all : List Born) (j : Option ℕ) (p k : ℕ) (ds : List ThreadDecl) (n : ℕ) → EachHeld all n (born_threads j p k ds)
 each_held_threads all j p k [] n = tt
-each_held_threads all j p k (d ∷ ds) n = each_held_step all n p k d (born_threads j p (k + 1) ds) (is_of j d.process) (λ m. each_held_threads all j p (k + 1) ds m)
+each_held_threads all j p k (d ∷ ds) n =
+    each_held_step all n p k d (born_threads j p (k + 1) ds) (is_of j d.process)
+    (λ m. each_held_threads all j p (k + 1) ds m)
 
 each_held_queues : (all : List Born) (q : ℕ) (ds : List QueueDecl) (n : ℕ) → EachHeld all n (born_queues q ds)
 each_held_queues all q [] n = tt
@@ -58,7 +61,9 @@ each_held_queues all q (d ∷ ds) n = (omega arith, each_held_queues all (q + 1)
 abbrev has_thread : Option ℕ → List ThreadDecl → Bool
 has_thread j ds = list_any (λ d. is_of j d.process) ds
 
-linked_step : (p k : ℕ) (d : ThreadDecl) (rest : List Born) (own more : Bool) → (own || more) ≡ true → (more ≡ true → 0 < links (record { 0 = p }) rest) → 0 < links (record { 0 = p }) (if own then born_thread p k d ∷ rest else rest)
+linked_step : (p k : ℕ) (d : ThreadDecl) (rest : List Born) (own more : Bool) → (own || more) ≡ true
+    → (more ≡ true → 0 < links (record { 0 = p }) rest)
+    → 0 < links (record { 0 = p }) (if own then born_thread p k d ∷ rest else rest)
 linked_step p k d rest true more any h = let one = same_self (record { 0 = p }) in omega arith
 linked_step p k d rest false more any h = h any
 
@@ -67,7 +72,10 @@ linked : (j : Option ℕ) (p k : ℕ) (ds : List ThreadDecl) → has_thread j ds
 linked j p k [] any = absurd (cc)
 linked j p k (d ∷ ds) any = linked_step p k d (born_threads j p (k + 1) ds) (is_of j d.process) (has_thread j ds) any (linked j p (k + 1) ds)
 
-each_held_processes : (all : List Born) (threads : List ThreadDecl) (j p : ℕ) (ds : List ProcessDecl) → ((i : ℕ) → j ≤ i → i < j + length ds → has_thread (Some i) threads ≡ true) → ((o : ObjNo) → links o (born_processes threads j p ds) ≤ links o all) → EachHeld all p (born_processes threads j p ds)
+each_held_processes : (all : List Born) (threads : List ThreadDecl) (j p : ℕ) (ds : List ProcessDecl)
+    → ((i : ℕ) → j ≤ i → i < j + length ds → has_thread (Some i) threads ≡ true)
+    → ((o : ObjNo) → links o (born_processes threads j p ds) ≤ links o all)
+    → EachHeld all p (born_processes threads j p ds)
 each_held_processes all threads j p [] some part = tt
 each_held_processes all threads j p (d ∷ ds) some part =
     let own = born_threads (Some j) p 0 threads in
@@ -76,7 +84,9 @@ each_held_processes all threads j p (d ∷ ds) some part =
           let b = links-append (record { 0 = p }) own rest in
           let c = linked (Some j) p 0 threads (some j (omega arith) (omega arith)) in omega arith,
       each_held-append all (p + 1) (p + 1 + length own) own rest refl (each_held_threads all (Some j) p 0 threads (p + 1))
-          (each_held_processes all threads (j + 1) (p + 1 + length own) ds (λ i above below. some i (omega arith) (omega arith)) (λ o. let a = part o in let b = links-append o own rest in omega arith)),
+          (each_held_processes all threads (j + 1) (p + 1 + length own) ds
+          (λ i above below. some i (omega arith) (omega arith))
+          (λ o. let a = part o in let b = links-append o own rest in omega arith)),
     )
 
 -- a process that has a thread has one in the list
@@ -96,11 +106,20 @@ born_held script valid =
     let behind = 2 + length queues in
     let first = length (born_kernel script) in
     let rest = born_processes script.threads 0 first script.processes in
-    each_held-append all 0 first (born_kernel script) rest (omega arith)
-    (omega arith, (omega arith, each_held-append all 2 behind queues own refl (each_held_queues all 1 script.queues 2) (each_held_threads all None 0 0 script.threads behind)))
-    (each_held_processes all script.threads 0 first script.processes (λ i above below. valid_has script valid i (omega arith)) (λ o. let a = links-append o (born_kernel script) rest in omega arith))
+    each_held-append all 0 first (born_kernel script) rest (omega arith) (
+      omega arith,
+      (
+        omega arith,
+        each_held-append all 2 behind queues own refl (each_held_queues all 1 script.queues 2)
+            (each_held_threads all None 0 0 script.threads behind),
+      ),
+    )
+    (each_held_processes all script.threads 0 first script.processes
+    (λ i above below. valid_has script valid i (omega arith))
+    (λ o. let a = links-append o (born_kernel script) rest in omega arith))
 
-held_at : (all : List Born) (n : ℕ) (bs : List Born) (i : ℕ) (o : ObjNo) → o.0 ≡ n + i → EachHeld all n bs → i < length bs → 0 < links o all + kernel_holds (get_or (map (λ b. b.thread) bs) i None)
+held_at : (all : List Born) (n : ℕ) (bs : List Born) (i : ℕ) (o : ObjNo) → o.0 ≡ n + i → EachHeld all n bs
+    → i < length bs → 0 < links o all + kernel_holds (get_or (map (λ b. b.thread) bs) i None)
 held_at all n [] i o at h inside = absurd (omega arith)
 held_at all n (b ∷ bs) zero o at h inside = subst (λ (x : ObjNo). 0 < links x all + kernel_holds b.thread) (same_object (record { 0 = n }) o (omega arith)) h.0
 held_at all n (b ∷ bs) (suc i) o at h inside = held_at all (n + 1) bs i o (omega arith) h.1 (omega arith)

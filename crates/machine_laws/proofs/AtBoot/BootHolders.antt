@@ -37,7 +37,8 @@ own_slot_of : (c : Bool) (table : List HandleSlot) (i : ℕ) (x : ObjNo) → (ta
 own_slot_of c table i x (inl e) = ap (λ (l : List HandleSlot). own_slot c x (slot_at l i)) e ∙ fresh_own_slot c 256 i x
 own_slot_of c table i x (inr e) = ap (λ (l : List HandleSlot). own_slot c x (slot_at l i)) e ∙ empty_own_slot c i x
 
-nothing_used_by : (script : Script) (n : ℕ) (bs : List Born) (i : ℕ) (x : ObjNo) (thread : Option ThreadRow) → EachBorn script n bs → get_or (map (λ b. b.thread) bs) i None ≡ thread → use_names x thread ≡ 0
+nothing_used_by : (script : Script) (n : ℕ) (bs : List Born) (i : ℕ) (x : ObjNo) (thread : Option ThreadRow)
+    → EachBorn script n bs → get_or (map (λ b. b.thread) bs) i None ≡ thread → use_names x thread ≡ 0
 nothing_used_by script n bs i x None h is = refl
 nothing_used_by script n bs i x (Some row) h is = ap (option_names x) (born_row script n bs i row h is).uses
 
@@ -56,8 +57,10 @@ held-boot script shaped g x = let a = rows g in let b = owed in let c = served g
     owed = total-const (total (owed_by g x)) [] bs refl
 
     rows : (g : Holder) → rows_hold tables (map (λ b. b.thread) bs) (map (λ _. []) bs) g x ≡ held_at_boot script g x
-    rows (InProcess p i) = own_slot_of (is_some (get_or (map (λ b. b.thread) bs) p.0 None)) (get_or tables p.0 []) i x (const_either (replicate 256 fresh_slot) [] bs p.0)
-    rows (InThread t i) = own_slot_of (not (is_some (get_or (map (λ b. b.thread) bs) t.0 None))) (get_or tables t.0 []) i x (const_either (replicate 256 fresh_slot) [] bs t.0)
+    rows (InProcess p i) = own_slot_of (is_some (get_or (map (λ b. b.thread) bs) p.0 None)) (get_or tables p.0 []) i x
+        (const_either (replicate 256 fresh_slot) [] bs p.0)
+    rows (InThread t i) = own_slot_of (not (is_some (get_or (map (λ b. b.thread) bs) t.0 None)))
+        (get_or tables t.0 []) i x (const_either (replicate 256 fresh_slot) [] bs t.0)
     rows (Temp t) = nothing_used_by script (length bs) bs t.0 x (get_or (map (λ b. b.thread) bs) t.0 None) (each_born script shaped) refl
     rows (Own t) = nothing_at bs (λ (l : List ObjNo). total (mutex_names x) l ≡ 0) t.0 refl
     rows (Link t) = refl

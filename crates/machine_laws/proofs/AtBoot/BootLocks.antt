@@ -68,5 +68,7 @@ memories-boot script shaped =
     record {
       sized = length-map bs memory_of ∙ sym (length-map bs (λ b. b.thread));
       bytes = memory_bytes bs;
-      processes = λ k row is. let new = born_row script (length bs) bs k row (each_born script shaped) is in memory_there bs row.process.0 new.process (linked_at bs bs k row (each_linked script) is);
+      processes =
+          λ k row is. let new = born_row script (length bs) bs k row (each_born script shaped) is in
+          memory_there bs row.process.0 new.process (linked_at bs bs k row (each_linked script) is);
     }

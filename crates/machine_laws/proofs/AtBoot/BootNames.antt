@@ -40,15 +40,23 @@ plain_born script =
     let queues = born_queues 1 script.queues in
     let own = born_threads None 0 0 script.threads in
     let first = length (born_kernel script) in
-    all-append IsPlain (born_kernel script) (born_processes script.threads 0 first script.processes)
-    ((refl, inl refl), ((refl, inr refl), all-append IsPlain queues own (plain_queues 1 script.queues) (all_threads IsPlain plain_thread None 0 0 script.threads)))
+    all-append IsPlain (born_kernel script) (born_processes script.threads 0 first script.processes) (
+      (refl, inl refl),
+      (
+        (refl, inr refl),
+        all-append IsPlain queues own (plain_queues 1 script.queues)
+            (all_threads IsPlain plain_thread None 0 0 script.threads),
+      ),
+    )
     (all_processes IsPlain plain_thread (λ name. (refl, inl refl)) script.threads 0 first script.processes)
 
 -- what holds of a row at boot
 abbrev IsPlainRow : ObjectRow → Type 0
 IsPlainRow row = (row.dead ≡ false) × ((row.kind ≡ Process) ⊎ (row.kind ≡ Thread))
 
-row_at : (bs : List Born) (k : ℕ) → AllByRecursion IsPlain bs → k < length bs → (row : ObjectRow) × (slice_get (rows_of bs) k ≡ Some (Some row)) × (row.dead ≡ false) × ((row.kind ≡ Process) ⊎ (row.kind ≡ Thread))
+row_at : (bs : List Born) (k : ℕ) → AllByRecursion IsPlain bs → k < length bs
+    → (row : ObjectRow) × (slice_get (rows_of bs) k ≡ Some (Some row)) × (row.dead ≡ false)
+    × ((row.kind ≡ Process) ⊎ (row.kind ≡ Thread))
 row_at [] k all inside = absurd (omega arith)
 row_at (b ∷ bs) zero all inside = (b.object, refl, all.0.0, all.0.1)
 row_at (b ∷ bs) (suc k) all inside = row_at bs k all.1 (omega arith)
@@ -59,19 +67,24 @@ plain_at (b ∷ bs) zero row all at = let e : b.object ≡ row = cc in subst IsP
 plain_at (b ∷ bs) (suc k) row all at = plain_at bs k row all.1 at
 
 -- each row at boot is of a process or a thread that is alive
-pub boot_rows : (script : Script) (k : ℕ) → k < length (boot script).references.objects → (row : ObjectRow) × (slice_get (boot script).references.objects k ≡ Some (Some row)) × (row.dead ≡ false) × ((row.kind ≡ Process) ⊎ (row.kind ≡ Thread))
+pub boot_rows : (script : Script) (k : ℕ) → k < length (boot script).references.objects
+    → (row : ObjectRow) × (slice_get (boot script).references.objects k ≡ Some (Some row)) × (row.dead ≡ false)
+    × ((row.kind ≡ Process) ⊎ (row.kind ≡ Thread))
 unfolding boot_of
 boot_rows script k inside =
     let long = length-map (born script) (λ b. Some b.object) in
     row_at (born script) k (plain_born script) (omega arith)
 
 -- and each object that is read there is one
-pub boot_kinds : (script : Script) (k : ℕ) (row : ObjectRow) → slice_get (boot script).references.objects k ≡ Some (Some row) → (row.dead ≡ false) × ((row.kind ≡ Process) ⊎ (row.kind ≡ Thread))
+pub boot_kinds : (script : Script) (k : ℕ) (row : ObjectRow)
+    → slice_get (boot script).references.objects k ≡ Some (Some row)
+    → (row.dead ≡ false) × ((row.kind ≡ Process) ⊎ (row.kind ≡ Thread))
 unfolding boot_of
 boot_kinds script k row at = plain_at (born script) k row (plain_born script) at
 
 -- no session stands at boot
-pub boot_no_session : (script : Script) (k : ℕ) (row : ObjectRow) → slice_get (boot script).references.objects k ≡ Some (Some row) → (kind_number row.kind == 5) ≡ false
+pub boot_no_session : (script : Script) (k : ℕ) (row : ObjectRow)
+    → slice_get (boot script).references.objects k ≡ Some (Some row) → (kind_number row.kind == 5) ≡ false
 boot_no_session script k row at = elim (boot_kinds script k row at).1 as (λ _. (kind_number row.kind == 5) ≡ false) [
   | inl process ↦ ap (λ kind. kind_number kind == 5) process
   | inr thread ↦ ap (λ kind. kind_number kind == 5) thread
@@ -83,28 +96,48 @@ names_of c [] = []
 names_of c (b ∷ bs) = if kind_number b.object.kind == c then b.object.name ∷ names_of c bs else names_of c bs
 
 -- a name that none of a kind has isn't the name of one of the kind
-other_here : (c : ℕ) (name : List ℕ) (names : List (List ℕ)) (row : ObjectRow) (own : Bool) → (kind_number row.kind == c) ≡ own → kind_number row.kind ≡ c → list_any (bytes_eq name) (if own then row.name ∷ names else names) ≡ false → bytes_eq name row.name ≡ false
+other_here : (c : ℕ) (name : List ℕ) (names : List (List ℕ)) (row : ObjectRow) (own : Bool)
+    → (kind_number row.kind == c) ≡ own → kind_number row.kind ≡ c
+    → list_any (bytes_eq name) (if own then row.name ∷ names else names) ≡ false → bytes_eq name row.name ≡ false
 other_here c name names row true e is none = (or_parts (bytes_eq name row.name) (list_any (bytes_eq name) names) none).0
 other_here c name names row false e is none = let same = eq-eqb (kind_number row.kind) c is in absurd (cc)
 
-none_later : (name first : List ℕ) (names : List (List ℕ)) (own : Bool) → list_any (bytes_eq name) (if own then first ∷ names else names) ≡ false → list_any (bytes_eq name) names ≡ false
+none_later : (name first : List ℕ) (names : List (List ℕ)) (own : Bool)
+    → list_any (bytes_eq name) (if own then first ∷ names else names) ≡ false → list_any (bytes_eq name) names ≡ false
 none_later name first names true none = (or_parts (bytes_eq name first) (list_any (bytes_eq name) names) none).1
 none_later name first names false none = none
 
-other_name : (c : ℕ) (bs : List Born) (k : ℕ) (name : List ℕ) (row : ObjectRow) → kind_number row.kind ≡ c → list_any (bytes_eq name) (names_of c bs) ≡ false → slice_get (rows_of bs) k ≡ Some (Some row) → bytes_eq name row.name ≡ false
+other_name : (c : ℕ) (bs : List Born) (k : ℕ) (name : List ℕ) (row : ObjectRow) → kind_number row.kind ≡ c
+    → list_any (bytes_eq name) (names_of c bs) ≡ false → slice_get (rows_of bs) k ≡ Some (Some row)
+    → bytes_eq name row.name ≡ false
 other_name c [] k name row is none at = absurd (cc)
 other_name c (b ∷ bs) zero name row is none at =
     let e : b.object ≡ row = cc in
-    subst (λ (r : ObjectRow). kind_number r.kind ≡ c → bytes_eq name r.name ≡ false) e (λ own. other_here c name (names_of c bs) b.object (kind_number b.object.kind == c) refl own none) is
-other_name c (b ∷ bs) (suc k) name row is none at = other_name c bs k name row is (none_later name b.object.name (names_of c bs) (kind_number b.object.kind == c) none) at
+    subst (λ (r : ObjectRow). kind_number r.kind ≡ c → bytes_eq name r.name ≡ false) e
+    (λ own. other_here c name (names_of c bs) b.object (kind_number b.object.kind == c) refl own none) is
+other_name c (b ∷ bs) (suc k) name row is none at =
+    other_name c bs k name row is (none_later name b.object.name (names_of c bs) (kind_number b.object.kind == c) none)
+    at
 
 -- the first of a list, beside one of a kind that stands behind it
-new_behind : (c : ℕ) (bs : List Born) (k : ℕ) (first row : ObjectRow) (own : Bool) → (kind_number first.kind == c) ≡ own → kind_number row.kind ≡ c → AreNamesApart (if own then first.name ∷ names_of c bs else names_of c bs) → slice_get (rows_of bs) k ≡ Some (Some row) → (has_name row.kind row.name (Some first) ≡ false) × AreNamesApart (names_of c bs)
-new_behind c bs k first row true e is apart at = (and_right (kind_number first.kind == kind_number row.kind) (bytes_eq first.name row.name) (other_name c bs k first.name row is apart.0 at), apart.1)
-new_behind c bs k first row false e is apart at = (and_left (kind_number first.kind == kind_number row.kind) (bytes_eq first.name row.name) (ap (λ n. kind_number first.kind == n) is ∙ e), apart)
+new_behind : (c : ℕ) (bs : List Born) (k : ℕ) (first row : ObjectRow) (own : Bool) → (kind_number first.kind == c) ≡ own
+    → kind_number row.kind ≡ c → AreNamesApart (if own then first.name ∷ names_of c bs else names_of c bs)
+    → slice_get (rows_of bs) k ≡ Some (Some row)
+    → (has_name row.kind row.name (Some first) ≡ false) × AreNamesApart (names_of c bs)
+new_behind c bs k first row true e is apart at = (
+  and_right (kind_number first.kind == kind_number row.kind) (bytes_eq first.name row.name)
+      (other_name c bs k first.name row is apart.0 at),
+  apart.1,
+)
+new_behind c bs k first row false e is apart at = (
+  and_left (kind_number first.kind == kind_number row.kind) (bytes_eq first.name row.name)
+      (ap (λ n. kind_number first.kind == n) is ∙ e),
+  apart,
+)
 
 -- where the names of a kind are apart, no object before one of the kind has its kind and its name
-new_at : (c : ℕ) (bs : List Born) (k : ℕ) (row : ObjectRow) → kind_number row.kind ≡ c → AreNamesApart (names_of c bs) → slice_get (rows_of bs) k ≡ Some (Some row) → list_any (has_name row.kind row.name) (take k (rows_of bs)) ≡ false
+new_at : (c : ℕ) (bs : List Born) (k : ℕ) (row : ObjectRow) → kind_number row.kind ≡ c → AreNamesApart (names_of c bs)
+    → slice_get (rows_of bs) k ≡ Some (Some row) → list_any (has_name row.kind row.name) (take k (rows_of bs)) ≡ false
 new_at c [] k row is apart at = absurd (cc)
 new_at c (b ∷ bs) zero row is apart at = refl
 new_at c (b ∷ bs) (suc k) row is apart at =
@@ -117,10 +150,13 @@ names_step false name xs ys zs e = e
 
 names_of-append : (c : ℕ) (xs ys : List Born) → names_of c (xs ++ ys) ≡ names_of c xs ++ names_of c ys
 names_of-append c [] ys = refl
-names_of-append c (x ∷ xs) ys = names_step (kind_number x.object.kind == c) x.object.name (names_of c xs) (names_of c ys) (names_of c (xs ++ ys)) (names_of-append c xs ys)
+names_of-append c (x ∷ xs) ys =
+    names_step (kind_number x.object.kind == c) x.object.name (names_of c xs) (names_of c ys) (names_of c (xs ++ ys))
+    (names_of-append c xs ys)
 
 -- the names of processes are those that the script declares
-no_process_step : (p k : ℕ) (d : ThreadDecl) (rest : List Born) (own : Bool) → names_of 0 rest ≡ [] → names_of 0 (if own then born_thread p k d ∷ rest else rest) ≡ []
+no_process_step : (p k : ℕ) (d : ThreadDecl) (rest : List Born) (own : Bool) → names_of 0 rest ≡ []
+    → names_of 0 (if own then born_thread p k d ∷ rest else rest) ≡ []
 no_process_step p k d rest true e = e
 no_process_step p k d rest false e = e
 
@@ -138,14 +174,17 @@ born_processes-names threads j p (d ∷ ds) =
     let own = born_threads (Some j) p 0 threads in
     let rest = born_processes threads (j + 1) (p + 1 + length own) ds in
     ap (λ (l : List (List ℕ)). d.name ∷ l)
-    (names_of-append 0 own rest ∙ (ap (λ (l : List (List ℕ)). l ++ names_of 0 rest) (no_process (Some j) p 0 threads) ∙ born_processes-names threads (j + 1) (p + 1 + length own) ds))
+    (names_of-append 0 own rest ∙ (ap (λ (l : List (List ℕ)). l ++ names_of 0 rest) (no_process (Some j) p 0 threads)
+    ∙ born_processes-names threads (j + 1) (p + 1 + length own) ds))
 
 -- the names of the declared threads of the j-th process, or of the kernel threads
 abbrev own_names : Option ℕ → List ThreadDecl → List (List ℕ)
 own_names j [] = []
 own_names j (d ∷ ds) = if is_of j d.process then d.name ∷ own_names j ds else own_names j ds
 
-born_names_step : (p k : ℕ) (d : ThreadDecl) (rest : List Born) (names : List (List ℕ)) (own : Bool) → names_of 1 rest ≡ names → names_of 1 (if own then born_thread p k d ∷ rest else rest) ≡ (if own then d.name ∷ names else names)
+born_names_step : (p k : ℕ) (d : ThreadDecl) (rest : List Born) (names : List (List ℕ)) (own : Bool)
+    → names_of 1 rest ≡ names
+    → names_of 1 (if own then born_thread p k d ∷ rest else rest) ≡ (if own then d.name ∷ names else names)
 born_names_step p k d rest names true e = ap (λ (l : List (List ℕ)). d.name ∷ l) e
 born_names_step p k d rest names false e = e
 
@@ -168,14 +207,17 @@ born_threads-names threads j p (d ∷ ds) =
     let own = born_threads (Some j) p 0 threads in
     let rest = born_processes threads (j + 1) (p + 1 + length own) ds in
     names_of-append 1 own rest
-    ∙ (ap (λ (l : List (List ℕ)). l ++ names_of 1 rest) (born_names (Some j) p 0 threads) ∙ ap (λ (l : List (List ℕ)). own_names (Some j) threads ++ l) (born_threads-names threads (j + 1) (p + 1 + length own) ds))
+    ∙ (ap (λ (l : List (List ℕ)). l ++ names_of 1 rest) (born_names (Some j) p 0 threads)
+    ∙ ap (λ (l : List (List ℕ)). own_names (Some j) threads ++ l)
+    (born_threads-names threads (j + 1) (p + 1 + length own) ds))
 
 -- the names of all declared threads, those of the kernel threads first
 abbrev grouped : List ProcessDecl → List ThreadDecl → List (List ℕ)
 grouped ds ts = own_names None ts ++ names_from 0 ds ts
 
 -- a thread adds its name to those of its own process, and to no others
-from-other : (j : ℕ) (ds : List ProcessDecl) (t : ThreadDecl) (ts : List ThreadDecl) → ((i : ℕ) → j ≤ i → is_of (Some i) t.process ≡ false) → names_from j ds (t ∷ ts) ≡ names_from j ds ts
+from-other : (j : ℕ) (ds : List ProcessDecl) (t : ThreadDecl) (ts : List ThreadDecl)
+    → ((i : ℕ) → j ≤ i → is_of (Some i) t.process ≡ false) → names_from j ds (t ∷ ts) ≡ names_from j ds ts
 from-other j [] t ts other = refl
 from-other j (d ∷ ds) t ts other =
     ap (λ (own : Bool). (if own then t.name ∷ own_names (Some j) ts else own_names (Some j) ts) ++ names_from (j + 1) ds (t ∷ ts)) (other j (omega arith))
@@ -189,7 +231,8 @@ of_no_process : (i : ℕ) (process : Option ℕ) → is_of None process ≡ true
 of_no_process i None own = refl
 of_no_process i (Some p) own = absurd (cc)
 
-put_first : (name : List ℕ) (names rest more : List (List ℕ)) (own : Bool) → (own ≡ true → more ≡ rest) → IsPut name rest more → IsPut name (names ++ rest) ((if own then name ∷ names else names) ++ more)
+put_first : (name : List ℕ) (names rest more : List (List ℕ)) (own : Bool) → (own ≡ true → more ≡ rest)
+    → IsPut name rest more → IsPut name (names ++ rest) ((if own then name ∷ names else names) ++ more)
 put_first name names rest more true same put = inr ([], names ++ rest, refl, ap (λ (l : List (List ℕ)). name ∷ (names ++ l)) (same refl))
 put_first name names rest more false same put = put_behind name names rest more put
 
@@ -207,7 +250,8 @@ from-none j [] = refl
 from-none j (d ∷ ds) = from-none (j + 1) ds
 
 -- threads whose names are apart have them apart in groups too
-none_grouped : (x : List ℕ) (ds : List ProcessDecl) (ts : List ThreadDecl) → list_any (bytes_eq x) (thread_names ts) ≡ false → list_any (bytes_eq x) (grouped ds ts) ≡ false
+none_grouped : (x : List ℕ) (ds : List ProcessDecl) (ts : List ThreadDecl)
+    → list_any (bytes_eq x) (thread_names ts) ≡ false → list_any (bytes_eq x) (grouped ds ts) ≡ false
 none_grouped x ds [] none = ap (list_any (bytes_eq x)) (from-none 0 ds)
 none_grouped x ds (t ∷ ts) none =
     let parts = or_parts (bytes_eq x t.name) (list_any (bytes_eq x) (thread_names ts)) none in
@@ -215,16 +259,20 @@ none_grouped x ds (t ∷ ts) none =
 
 apart_grouped : (ds : List ProcessDecl) (ts : List ThreadDecl) → AreNamesApart (thread_names ts) → AreNamesApart (grouped ds ts)
 apart_grouped ds [] apart = subst AreNamesApart (sym (from-none 0 ds)) tt
-apart_grouped ds (t ∷ ts) apart = apart_put t.name (grouped ds ts) (grouped ds (t ∷ ts)) (grouped-put ds t ts) (none_grouped t.name ds ts apart.0) (apart_grouped ds ts apart.1)
+apart_grouped ds (t ∷ ts) apart =
+    apart_put t.name (grouped ds ts) (grouped ds (t ∷ ts)) (grouped-put ds t ts) (none_grouped t.name ds ts apart.0)
+    (apart_grouped ds ts apart.1)
 
 -- also behind other names
-none_behind : (x : List ℕ) (front : List (List ℕ)) (ds : List ProcessDecl) (ts : List ThreadDecl) → list_any (bytes_eq x) (front ++ thread_names ts) ≡ false → list_any (bytes_eq x) (front ++ grouped ds ts) ≡ false
+none_behind : (x : List ℕ) (front : List (List ℕ)) (ds : List ProcessDecl) (ts : List ThreadDecl)
+    → list_any (bytes_eq x) (front ++ thread_names ts) ≡ false → list_any (bytes_eq x) (front ++ grouped ds ts) ≡ false
 none_behind x [] ds ts none = none_grouped x ds ts none
 none_behind x (y ∷ ys) ds ts none =
     let parts = or_parts (bytes_eq x y) (list_any (bytes_eq x) (ys ++ thread_names ts)) none in
     or_from (bytes_eq x y) (list_any (bytes_eq x) (ys ++ grouped ds ts)) parts.0 (none_behind x ys ds ts parts.1)
 
-apart_behind : (front : List (List ℕ)) (ds : List ProcessDecl) (ts : List ThreadDecl) → AreNamesApart (front ++ thread_names ts) → AreNamesApart (front ++ grouped ds ts)
+apart_behind : (front : List (List ℕ)) (ds : List ProcessDecl) (ts : List ThreadDecl)
+    → AreNamesApart (front ++ thread_names ts) → AreNamesApart (front ++ grouped ds ts)
 apart_behind [] ds ts apart = apart_grouped ds ts apart
 apart_behind (x ∷ xs) ds ts apart = (none_behind x xs ds ts apart.0, apart_behind xs ds ts apart.1)
 
@@ -235,10 +283,12 @@ processes_apart script valid =
     let first = length (born_kernel script) in
     let rest = born_processes script.threads 0 first script.processes in
     let kernel : names_of 0 (born_kernel script) ≡ codes "kernel" ∷ [] =
-    ap (λ (l : List (List ℕ)). codes "kernel" ∷ l) (names_of-append 0 queues own ∙ rw (no_process_queue 1 script.queues, no_process None 0 0 script.threads) refl) in
+    ap (λ (l : List (List ℕ)). codes "kernel" ∷ l)
+    (names_of-append 0 queues own ∙ rw (no_process_queue 1 script.queues, no_process None 0 0 script.threads) refl) in
     let names : names_of 0 (born script) ≡ codes "kernel" ∷ process_names script.processes =
     names_of-append 0 (born_kernel script) rest
-    ∙ (ap (λ (l : List (List ℕ)). l ++ names_of 0 rest) kernel ∙ ap (λ (l : List (List ℕ)). codes "kernel" ∷ l) (born_processes-names script.threads 0 first script.processes)) in
+    ∙ (ap (λ (l : List (List ℕ)). l ++ names_of 0 rest) kernel
+    ∙ ap (λ (l : List (List ℕ)). codes "kernel" ∷ l) (born_processes-names script.threads 0 first script.processes)) in
     subst AreNamesApart (sym names) (formed_names_new script valid).processes
 
 threads_apart : (script : Script) → IsWellFormed script → AreNamesApart (names_of 1 (born script))
@@ -248,7 +298,9 @@ threads_apart script valid =
     let rest = born_processes script.threads 0 first script.processes in
     let front = codes "supervisor" ∷ queue_names script.queues in
     let kernel : names_of 1 (born_kernel script) ≡ front ++ own_names None script.threads =
-    ap (λ (l : List (List ℕ)). codes "supervisor" ∷ l) (names_of-append 1 (born_queues 1 script.queues) own ∙ rw (born_queue-names 1 script.queues, born_names None 0 0 script.threads) refl) in
+    ap (λ (l : List (List ℕ)). codes "supervisor" ∷ l)
+    (names_of-append 1 (born_queues 1 script.queues) own
+    ∙ rw (born_queue-names 1 script.queues, born_names None 0 0 script.threads) refl) in
     let names : names_of 1 (born script) ≡ front ++ grouped script.processes script.threads =
     names_of-append 1 (born_kernel script) rest
     ∙ (ap (λ (l : List (List ℕ)). l ++ names_of 1 rest) kernel
@@ -257,9 +309,13 @@ threads_apart script valid =
     subst AreNamesApart (sym names) (apart_behind front script.processes script.threads (formed_names_new script valid).threads)
 
 -- no two objects at boot have one kind and one name
-pub boot_names_new : (script : Script) → IsWellFormed script → (k : ℕ) (row : ObjectRow) → slice_get (boot script).references.objects k ≡ Some (Some row) → list_any (has_name row.kind row.name) (take k (boot script).references.objects) ≡ false
+pub boot_names_new : (script : Script) → IsWellFormed script → (k : ℕ) (row : ObjectRow)
+    → slice_get (boot script).references.objects k ≡ Some (Some row)
+    → list_any (has_name row.kind row.name) (take k (boot script).references.objects) ≡ false
 unfolding boot_of
-boot_names_new script valid k row at = elim (boot_kinds script k row at).1 as (λ _. list_any (has_name row.kind row.name) (take k (boot script).references.objects) ≡ false) [
-  | inl process ↦ new_at 0 (born script) k row (ap kind_number process) (processes_apart script valid) at
-  | inr thread ↦ new_at 1 (born script) k row (ap kind_number thread) (threads_apart script valid) at
-]
+boot_names_new script valid k row at =
+    elim (boot_kinds script k row at).1 as (λ _. list_any (has_name row.kind row.name)
+    (take k (boot script).references.objects) ≡ false) [
+      | inl process ↦ new_at 0 (born script) k row (ap kind_number process) (processes_apart script valid) at
+      | inr thread ↦ new_at 1 (born script) k row (ap kind_number thread) (threads_apart script valid) at
+    ]

@@ -23,14 +23,17 @@ use Rattle.move_laws.proofs.Lists.Copies.{copy_at}
 nobody_holds : (fast : ℕ) (bs : List Born) (t : ObjNo) → held_by (nano_of fast bs) t ≡ None
 nobody_holds fast bs t =
     let holders : List (Option ObjNo) = replicate fast None in
-    let none = position_or_len_is (is_thread t) holders (length holders) None (omega arith) (λ k below. ap (is_thread t) (copy_at {A = Option ObjNo} None fast k)) (λ past. absurd (omega arith)) in
-    let out : nat_lt (position_or_len (is_thread t) holders) (length holders) ≡ false = le-ltb (position_or_len (is_thread t) holders) (length holders) (omega arith) in
+    let none = position_or_len_is (is_thread t) holders (length holders) None (omega arith)
+    (λ k below. ap (is_thread t) (copy_at {A = Option ObjNo} None fast k)) (λ past. absurd (omega arith)) in
+    let out : nat_lt (position_or_len (is_thread t) holders) (length holders) ≡ false =
+    le-ltb (position_or_len (is_thread t) holders) (length holders) (omega arith) in
     ap (λ (b : Bool). cond b (Some (position_or_len (is_thread t) holders)) None) out
 
 -- nothing protects a thread at boot
 pub unprotected : (fast : ℕ) (bs : List Born) (t : ObjNo) → is_protected (nano_of fast bs) t ≡ false
 unprotected fast bs t =
-    or_from (is_some (held_by (nano_of fast bs) t)) (not (critical_count (nano_of fast bs) t == 0)) (ap is_some (nobody_holds fast bs t)) (ap (λ (n : ℕ). not (n == 0)) (copy_at 0 (length bs) t.0))
+    or_from (is_some (held_by (nano_of fast bs) t)) (not (critical_count (nano_of fast bs) t == 0))
+    (ap is_some (nobody_holds fast bs t)) (ap (λ (n : ℕ). not (n == 0)) (copy_at 0 (length bs) t.0))
 
 -- whether the one at a place is held
 abbrev pub is_held_at : List Born → ℕ → Bool
@@ -50,7 +53,9 @@ suspended_at (b ∷ bs) (suc i) = suspended_at bs i
 -- a thread is stopped at boot exactly where it is held
 pub stopped-boot : (pool fast : ℕ) (calls : DeferredRows) (bs : List Born) (t : ObjNo) → is_stopped (boot_of pool fast calls bs) t ≡ is_held_at bs t.0
 unfolding boot_of
-stopped-boot pool fast calls bs t = ap (λ (protected : Bool). not (get_or (map held_count bs) t.0 0 == 0) && not protected) (unprotected fast bs t) ∙ (and-true (not (get_or (map held_count bs) t.0 0 == 0)) ∙ suspended_at bs t.0)
+stopped-boot pool fast calls bs t =
+    ap (λ (protected : Bool). not (get_or (map held_count bs) t.0 0 == 0) && not protected) (unprotected fast bs t)
+    ∙ (and-true (not (get_or (map held_count bs) t.0 0 == 0)) ∙ suspended_at bs t.0)
 
 held_count_few : (held : Bool) → (if held then 1 else 0) ≤ 127
 held_count_few true = omega arith

@@ -26,7 +26,8 @@ works_at (b ∷ bs) zero = b.works
 works_at (b ∷ bs) (suc i) = works_at bs i
 
 -- a thread before or behind the first of a list stands in it where it stands in the rest
-listed_later : (n : ℕ) (rest : List ObjNo) (works : Bool) (u : ObjNo) → (n ≡ u.0 → ⊥) → is_listed (if works then record { 0 = n } ∷ rest else rest) u ≡ is_listed rest u
+listed_later : (n : ℕ) (rest : List ObjNo) (works : Bool) (u : ObjNo) → (n ≡ u.0 → ⊥)
+    → is_listed (if works then record { 0 = n } ∷ rest else rest) u ≡ is_listed rest u
 listed_later n rest true u apart = ap (λ (b : Bool). b || is_listed rest u) (eqb_apart n u.0 apart)
 listed_later n rest false u apart = refl
 
@@ -34,7 +35,8 @@ listed_below : (n : ℕ) (bs : List Born) (u : ObjNo) → u.0 < n → is_listed 
 listed_below n [] u lt = refl
 listed_below n (b ∷ bs) u lt = listed_later n (ready_from (n + 1) bs) b.works u (λ e. absurd (omega arith)) ∙ listed_below (n + 1) bs u (omega arith)
 
-listed_first : (n : ℕ) (rest : List ObjNo) (works : Bool) (u : ObjNo) → n ≡ u.0 → is_listed rest u ≡ false → is_listed (if works then record { 0 = n } ∷ rest else rest) u ≡ works
+listed_first : (n : ℕ) (rest : List ObjNo) (works : Bool) (u : ObjNo) → n ≡ u.0 → is_listed rest u ≡ false
+    → is_listed (if works then record { 0 = n } ∷ rest else rest) u ≡ works
 listed_first n rest true u at out = ap (λ (b : Bool). b || is_listed rest u) (eq-eqb n u.0 at)
 listed_first n rest false u at out = out
 
@@ -44,13 +46,16 @@ listed_at n (b ∷ bs) zero u at = listed_first n (ready_from (n + 1) bs) b.work
 listed_at n (b ∷ bs) (suc i) u at = listed_later n (ready_from (n + 1) bs) b.works u (λ e. absurd (omega arith)) ∙ listed_at (n + 1) bs i u (omega arith)
 
 -- who works isn't held and has something to do
-works_is : (script : Script) (n : ℕ) (bs : List Born) (i : ℕ) → EachBorn script n bs → works_at bs i ≡ (not (is_held_at bs i) && has_task script (calls_of script) None (get_or (map (λ b. b.thread) bs) i None))
+works_is : (script : Script) (n : ℕ) (bs : List Born) (i : ℕ) → EachBorn script n bs
+    → works_at bs i ≡ (not (is_held_at bs i) && has_task script (calls_of script) None
+    (get_or (map (λ b. b.thread) bs) i None))
 works_is script n [] i h = refl
 works_is script n (b ∷ bs) zero h = h.0.works
 works_is script n (b ∷ bs) (suc i) h = works_is script n bs i h.1
 
 -- nobody waits
-row_goes_on : (shared : Bool) (n : ℕ) (thread : Option ThreadRow) → ((row : ThreadRow) → thread ≡ Some row → IsNewThread n row) → is_waiting_row shared thread ≡ false
+row_goes_on : (shared : Bool) (n : ℕ) (thread : Option ThreadRow)
+    → ((row : ThreadRow) → thread ≡ Some row → IsNewThread n row) → is_waiting_row shared thread ≡ false
 row_goes_on shared n None rows = refl
 row_goes_on shared n (Some row) rows = let new = rows row refl in rw (new.waiting, new.part) (out shared)
   where
@@ -58,7 +63,8 @@ row_goes_on shared n (Some row) rows = let new = rows row refl in rw (new.waitin
     out true = refl
     out false = refl
 
-goes_on : (shared : Bool) (script : Script) (n : ℕ) (bs : List Born) (i : ℕ) → EachBorn script n bs → is_waiting_row shared (get_or (map (λ b. b.thread) bs) i None) ≡ false
+goes_on : (shared : Bool) (script : Script) (n : ℕ) (bs : List Born) (i : ℕ) → EachBorn script n bs
+    → is_waiting_row shared (get_or (map (λ b. b.thread) bs) i None) ≡ false
 goes_on shared script n [] i h = refl
 goes_on shared script n (b ∷ bs) zero h = row_goes_on shared n b.thread h.0.row
 goes_on shared script n (b ∷ bs) (suc i) h = goes_on shared script n bs i h.1
@@ -68,7 +74,8 @@ owes_nothing [] i = refl
 owes_nothing (b ∷ bs) zero = refl
 owes_nothing (b ∷ bs) (suc i) = owes_nothing bs i
 
-apart_step : (n : ℕ) (rest : List ObjNo) (works : Bool) → is_listed rest (record { 0 = n }) ≡ false → AreApart rest → AreApart (if works then record { 0 = n } ∷ rest else rest)
+apart_step : (n : ℕ) (rest : List ObjNo) (works : Bool) → is_listed rest (record { 0 = n }) ≡ false → AreApart rest
+    → AreApart (if works then record { 0 = n } ∷ rest else rest)
 apart_step n rest true out h = (out, h)
 apart_step n rest false out h = h
 
@@ -76,7 +83,9 @@ ready_apart : (n : ℕ) (bs : List Born) → AreApart (ready_from n bs)
 ready_apart n [] = tt
 ready_apart n (b ∷ bs) = apart_step n (ready_from (n + 1) bs) b.works (listed_below (n + 1) bs (record { 0 = n }) (omega arith)) (ready_apart (n + 1) bs)
 
-task-boot : (shared : Bool) (script : Script) (u : ObjNo) → ◌≡◌ {A = Bool} (is_some (task_of script (boot_in shared script) u)) (has_task script (calls_of script) None (get_or (map (λ b. b.thread) (born script)) u.0 None))
+task-boot : (shared : Bool) (script : Script) (u : ObjNo)
+    → ◌≡◌ {A = Bool} (is_some (task_of script (boot_in shared script) u))
+    (has_task script (calls_of script) None (get_or (map (λ b. b.thread) (born script)) u.0 None))
 unfolding boot_of
 task-boot shared script u =
     let bs = born script in
@@ -94,7 +103,8 @@ ready-boot shared script shaped =
     let each = each_born script shaped in
     record {
       exact = λ u. listed_at 0 bs u.0 u (omega arith) ∙ works_is script (length bs) bs u.0 each
-          ∙ sym (ready_is (is_waiting (boot_in shared script) u) (is_stopped (boot_in shared script) u) (is_some (task_of script (boot_in shared script) u)) (is_held_at bs u.0) _
+          ∙ sym (ready_is (is_waiting (boot_in shared script) u) (is_stopped (boot_in shared script) u)
+          (is_some (task_of script (boot_in shared script) u)) (is_held_at bs u.0) _
           (goes_on shared script (length bs) bs u.0 each) (stopped-boot script.pool script.fast (calls_of script) bs u) (task-boot shared script u));
       once = ready_apart 0 bs;
     }

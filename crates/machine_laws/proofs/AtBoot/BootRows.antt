@@ -61,7 +61,8 @@ born_alive script n (b ∷ bs) zero h lt = h.0.alive
 born_alive script n (b ∷ bs) (suc i) h lt = born_alive script n bs i h.1 (omega arith)
 
 -- no row names an object past those at boot
-thread_names_past : (n : ℕ) (o : ObjNo) (thread : Option ThreadRow) → n ≤ o.0 → ((row : ThreadRow) → thread ≡ Some row → IsNewThread n row) → thread_names o thread ≡ 0
+thread_names_past : (n : ℕ) (o : ObjNo) (thread : Option ThreadRow) → n ≤ o.0
+    → ((row : ThreadRow) → thread ≡ Some row → IsNewThread n row) → thread_names o thread ≡ 0
 thread_names_past n o None le rows = refl
 thread_names_past n o (Some row) le rows =
     let new = rows row refl in
@@ -70,7 +71,8 @@ thread_names_past n o (Some row) le rows =
     let used : option_names o row.uses ≡ 0 = ap (option_names o) new.uses in
     omega arith
 
-born_threads_past : (script : Script) (n : ℕ) (o : ObjNo) (bs : List Born) → n ≤ o.0 → EachBorn script n bs → total (thread_names o) (map (λ b. b.thread) bs) ≡ 0
+born_threads_past : (script : Script) (n : ℕ) (o : ObjNo) (bs : List Born) → n ≤ o.0 → EachBorn script n bs
+    → total (thread_names o) (map (λ b. b.thread) bs) ≡ 0
 born_threads_past script n o [] le h = refl
 born_threads_past script n o (b ∷ bs) le h =
     let a = thread_names_past n o b.thread le h.0.row in
@@ -94,7 +96,13 @@ fresh_instances (suc n) zero = omega arith
 fresh_instances (suc n) (suc i) = fresh_instances n i
 
 fresh_table : IsTable (replicate 256 fresh_slot)
-fresh_table = record { size = length-replicate 256 fresh_slot; instances = fresh_instances 256; counted = λ i o is. let none = copy_at fresh_slot 256 i in let object = ap (λ (slot : HandleSlot). slot.object) none in absurd (cc) }
+fresh_table = record {
+  size = length-replicate 256 fresh_slot;
+  instances = fresh_instances 256;
+  counted =
+      λ i o is. let none = copy_at fresh_slot 256 i in let object = ap (λ (slot : HandleSlot). slot.object) none in
+      absurd (cc);
+}
 
 pub rows-boot : (shared : Bool) (script : Script) → IsWellFormedScript script → AreRows script (boot_in shared script)
 unfolding boot_of
@@ -115,7 +123,9 @@ rows-boot shared script valid =
           threads_few = omega arith;
           objects_few = omega arith;
         };
-        tables = λ k inside. subst IsTable (sym (const_at (replicate 256 fresh_slot) [] bs k (let a = length-map bs (λ _. replicate 256 fresh_slot) in omega arith))) fresh_table;
+        tables =
+            λ k inside. subst IsTable (sym (const_at (replicate 256 fresh_slot) [] bs k
+            (let a = length-map bs (λ _. replicate 256 fresh_slot) in omega arith))) fresh_table;
         threads = record {
           rows = λ k row is. let new = born_row script (length bs) bs k row each is in
               let process = new.process in
@@ -139,7 +149,9 @@ rows-boot shared script valid =
           returns = λ k _. nothing_at bs (λ (l : List Owed). l ≡ []) k refl;
         };
         spent = record {
-          rows = λ k row is after. let new = born_row script (length bs) bs k row each is in let no : is_spent row.stage ≡ false = ap is_spent new.live in absurd (cc);
+          rows =
+              λ k row is after. let new = born_row script (length bs) bs k row each is in
+              let no : is_spent row.stage ≡ false = ap is_spent new.live in absurd (cc);
           unlinked = λ k row is dead. let none = born_dead script (length bs) bs k each in absurd (omega arith);
         };
       };
@@ -148,7 +160,9 @@ rows-boot shared script valid =
         deferred = record { idfcs = refl; places = refl; queues = length-replicate {A = List ℕ} (1 + length script.queues) []; known = tt };
         requests = subst (λ (n : ℕ). AreRequests n (request_rows (length bs) DEVICES)) (sym threads) (requests-boot (length bs));
         locks = locks-boot (length (map (λ b. Some b.object) bs)) OBJECTS bs refl;
-        logons = subst (λ (n : ℕ). AreLogons n (request_rows (length bs) DEVICES) (map (λ _. []) bs)) (sym threads) (logons-boot bs (length bs) (request_rows (length bs) DEVICES) refl);
+        logons =
+            subst (λ (n : ℕ). AreLogons n (request_rows (length bs) DEVICES) (map (λ _. []) bs)) (sym threads)
+            (logons-boot bs (length bs) (request_rows (length bs) DEVICES) refl);
         awaited = record {
           requests = λ d request is. absurd (no_request (length bs) d request is);
           logons = λ u s some. let none = none_logged u s bs in absurd (omega arith);

@@ -42,18 +42,22 @@ each_serves script =
     let own = born_threads None 0 0 script.threads in
     let first = length (born_kernel script) in
     let rest = born_processes script.threads 0 first script.processes in
-    let others = all-append ServesNone own rest (all_threads ServesNone no_server None 0 0 script.threads) (all_processes ServesNone no_server (λ name. refl) script.threads 0 first script.processes) in (
+    let others = all-append ServesNone own rest (all_threads ServesNone no_server None 0 0 script.threads)
+    (all_processes ServesNone no_server (λ name. refl) script.threads 0 first script.processes) in (
       λ queue is. absurd (cc),
       (
         λ queue is. let e : 0 ≡ queue = cc in omega arith,
-        subst (λ (l : List Born). EachServes 2 l) (sym (append_assoc (born_queues 1 script.queues) own rest)) (serve_queues 2 1 script.queues (own ++ rest) refl others),
+        subst (λ (l : List Born). EachServes 2 l) (sym (append_assoc (born_queues 1 script.queues) own rest))
+            (serve_queues 2 1 script.queues (own ++ rest) refl others),
       ),
     )
 
-serves_at : (n : ℕ) (bs : List Born) (i queue : ℕ) (row : ThreadRow) → EachServes n bs → get_or (map (λ b. b.thread) bs) i None ≡ Some row → served_queue row.role ≡ Some queue → n + i ≡ 1 + queue
+serves_at : (n : ℕ) (bs : List Born) (i queue : ℕ) (row : ThreadRow) → EachServes n bs
+    → get_or (map (λ b. b.thread) bs) i None ≡ Some row → served_queue row.role ≡ Some queue → n + i ≡ 1 + queue
 serves_at n [] i queue row h is serves = absurd (cc)
 serves_at n (b ∷ bs) zero queue row h is serves = let at = h.0 queue (ap served_by is ∙ serves) in omega arith
 serves_at n (b ∷ bs) (suc i) queue row h is serves = let at = serves_at (n + 1) bs i queue row h.1 is serves in omega arith
 
-pub servers-boot : (script : Script) (i queue : ℕ) (row : ThreadRow) → get_or (map (λ b. b.thread) (born script)) i None ≡ Some row → served_queue row.role ≡ Some queue → i ≡ 1 + queue
+pub servers-boot : (script : Script) (i queue : ℕ) (row : ThreadRow)
+    → get_or (map (λ b. b.thread) (born script)) i None ≡ Some row → served_queue row.role ≡ Some queue → i ≡ 1 + queue
 servers-boot script i queue row is serves = let at = serves_at 0 (born script) i queue row (each_serves script) is serves in omega arith

@@ -45,7 +45,8 @@ none_among n s o among = let none = ap (holds s) (none_linked n o) in cc
 none_owned : (bs : List Born) (t o : ObjNo) → times_owned (map (λ _. []) bs) t o ≡ 0
 none_owned bs t o = nothing_at bs (λ (l : List ObjNo). total (mutex_names o) l ≡ 0) t.0 refl
 
-pub rows_of_servers-boot : (spent : ThreadRow → Bool) (objects n : ℕ) (locks : LockRows) (bs : List Born) → n ≡ OBJECTS → AreServers spent objects (map (λ b. b.thread) bs) locks (map (λ _. []) bs) (no_rows n)
+pub rows_of_servers-boot : (spent : ThreadRow → Bool) (objects n : ℕ) (locks : LockRows) (bs : List Born) → n ≡ OBJECTS
+    → AreServers spent objects (map (λ b. b.thread) bs) locks (map (λ _. []) bs) (no_rows n)
 rows_of_servers-boot spent objects n locks bs size = record {
   servers_sized = length-replicate {A = Option ServerRow} n None ∙ size;
   sessions_sized = length-replicate {A = Option SessionRow} n None ∙ size;
@@ -82,7 +83,8 @@ all_left : (threads : List (Option ThreadRow)) → total numbers_left threads �
 all_left [] = omega arith
 all_left (thread ∷ threads) = let one = row_left thread in let rest = all_left threads in omega arith
 
-pub messages-boot : (script : Script) (A : ObjNo → ℕ → Type 0) (n pool : ℕ) → IsShaped script → n ≡ OBJECTS → AreMessages A (map (λ b. b.thread) (born script)) (no_rows n) (no_messages n pool)
+pub messages-boot : (script : Script) (A : ObjNo → ℕ → Type 0) (n pool : ℕ) → IsShaped script → n ≡ OBJECTS
+    → AreMessages A (map (λ b. b.thread) (born script)) (no_rows n) (no_messages n pool)
 messages-boot script A n pool shaped size = record {
   objects = size;
   rising = tt;
@@ -93,7 +95,14 @@ messages-boot script A n pool shaped size = record {
   awaited = λ u s some. absurd (omega arith);
   called = λ u. omega arith;
   replies = λ u row some is live. absurd (omega arith);
-  few = let none = total-replicate {A = Option SessionRow} open_bit None n refl in let sends = none_send script (length (born script)) (born script) (each_born script shaped) in omega arith;
+  few =
+      let none = total-replicate {A = Option SessionRow} open_bit None n refl in
+      let sends = none_send script (length (born script)) (born script) (each_born script shaped) in
+      omega arith;
   threads_few = threads_few script shaped;
-  numbered = let none = total-replicate {A = Option SessionRow} open_bit None n refl in let few = threads_few script shaped in let left = all_left (map (λ b. b.thread) (born script)) in omega arith;
+  numbered =
+      let none = total-replicate {A = Option SessionRow} open_bit None n refl in
+      let few = threads_few script shaped in
+      let left = all_left (map (λ b. b.thread) (born script)) in
+      omega arith;
 }

@@ -60,13 +60,26 @@ slice_get-behind : (pre : List ThreadDecl) (d : ThreadDecl) (ds : List ThreadDec
 slice_get-behind [] d ds = refl
 slice_get-behind (x ∷ xs) d ds = slice_get-behind xs d ds
 
-is_new_thread : (n p : ℕ) (role : Role) (priority : ℕ) → p < n → priority ≤ 63 → (row : ThreadRow) → Some (new_thread p role priority) ≡ Some row → IsNewThread n row
+is_new_thread : (n p : ℕ) (role : Role) (priority : ℕ) → p < n → priority ≤ 63 → (row : ThreadRow)
+    → Some (new_thread p role priority) ≡ Some row → IsNewThread n row
 is_new_thread n p role priority lt few row is =
     let e : new_thread p role priority ≡ row = cc in
-    subst (λ (r : ThreadRow). IsNewThread n r) e (record { process = lt; link = refl; priority = few; waiting = refl; next_instruction = refl; part = refl; uses = refl; live = refl; registers = refl })
+    subst (λ (r : ThreadRow). IsNewThread n r) e
+    (record {
+      process = lt;
+      link = refl;
+      priority = few;
+      waiting = refl;
+      next_instruction = refl;
+      part = refl;
+      uses = refl;
+      live = refl;
+      registers = refl;
+    })
 
 -- and has its role
-has_role : (script : Script) (p : ℕ) (role : Role) (priority : ℕ) → IsRole script role → (row : ThreadRow) → Some (new_thread p role priority) ≡ Some row → IsRole script row.role
+has_role : (script : Script) (p : ℕ) (role : Role) (priority : ℕ) → IsRole script role → (row : ThreadRow)
+    → Some (new_thread p role priority) ≡ Some row → IsRole script row.role
 has_role script p role priority declared row is = let e : new_thread p role priority ≡ row = cc in subst (λ (r : ThreadRow). IsRole script r.role) e declared
 
 is_born_thread : (script : Script) (n p k : ℕ) (d : ThreadDecl) → p < n → d.priority ≤ 63 → k < length script.threads → IsBorn script n (born_thread p k d)
@@ -77,14 +90,18 @@ is_born_thread script n p k d lt few declared = record {
   works = works_unless (not d.held);
 }
 
-each_born_threads_step : (script : Script) (n p : ℕ) (k : ℕ) (d : ThreadDecl) (rest : List Born) (b : Bool) → IsBorn script n (born_thread p k d) → EachBorn script n rest → EachBorn script n (if b then born_thread p k d ∷ rest else rest)
+each_born_threads_step : (script : Script) (n p : ℕ) (k : ℕ) (d : ThreadDecl) (rest : List Born) (b : Bool)
+    → IsBorn script n (born_thread p k d) → EachBorn script n rest
+    → EachBorn script n (if b then born_thread p k d ∷ rest else rest)
 each_born_threads_step script n p k d rest true one more = (one, more)
 each_born_threads_step script n p k d rest false one more = more
 
-each_born_threads : (script : Script) → IsShaped script → (n : ℕ) (j : Option ℕ) (p : ℕ) (pre ds : List ThreadDecl) → p < n → script.threads ≡ pre ++ ds → EachBorn script n (born_threads j p (length pre) ds)
+each_born_threads : (script : Script) → IsShaped script → (n : ℕ) (j : Option ℕ) (p : ℕ) (pre ds : List ThreadDecl)
+    → p < n → script.threads ≡ pre ++ ds → EachBorn script n (born_threads j p (length pre) ds)
 each_born_threads script shaped n j p pre [] lt e = tt
 each_born_threads script shaped n j p pre (d ∷ ds) lt e =
-    let more : EachBorn script n (born_threads j p (length (pre ++ d ∷ [])) ds) = each_born_threads script shaped n j p (pre ++ d ∷ []) ds lt (e ∙ sym (append_assoc pre (d ∷ []) ds)) in
+    let more : EachBorn script n (born_threads j p (length (pre ++ d ∷ [])) ds) =
+    each_born_threads script shaped n j p (pre ++ d ∷ []) ds lt (e ∙ sym (append_assoc pre (d ∷ []) ds)) in
     let long : length (pre ++ d ∷ []) ≡ length pre + 1 = length-append pre (d ∷ []) in
     let at : slice_get script.threads (length pre) ≡ Some d = ap (λ l. slice_get l (length pre)) e ∙ slice_get-behind pre d ds in
     let count : length script.threads ≡ length (pre ++ d ∷ ds) = ap length e in
@@ -97,9 +114,15 @@ none_some : (x : Option ThreadRow) (row : ThreadRow) → x ≡ None → x ≡ So
 none_some x row e h = cc
 
 is_born_process : (script : Script) (n : ℕ) (name : List ℕ) → IsBorn script n (born_process name)
-is_born_process script n name = record { alive = refl; row = λ row is. absurd (none_some None row refl is); declared = λ row is. absurd (none_some None row refl is); works = refl }
+is_born_process script n name = record {
+  alive = refl;
+  row = λ row is. absurd (none_some None row refl is);
+  declared = λ row is. absurd (none_some None row refl is);
+  works = refl;
+}
 
-each_born_processes : (script : Script) → IsShaped script → (n j p : ℕ) (ds : List ProcessDecl) → p + length (born_processes script.threads j p ds) ≤ n → EachBorn script n (born_processes script.threads j p ds)
+each_born_processes : (script : Script) → IsShaped script → (n j p : ℕ) (ds : List ProcessDecl)
+    → p + length (born_processes script.threads j p ds) ≤ n → EachBorn script n (born_processes script.threads j p ds)
 each_born_processes script shaped n j p [] le = tt
 each_born_processes script shaped n j p (d ∷ ds) le =
     let threads = born_threads (Some j) p 0 script.threads in
@@ -118,7 +141,8 @@ no_call script q = ap (first_of_greatest (priority_of (calls_of script))) (copy_
 no_work : (script : Script) (q : ℕ) → false ≡ is_some (option_map call_task (next_of (calls_of script) q))
 no_work script q = ap (λ (call : Option ℕ). is_some (option_map call_task call)) (sym (no_call script q))
 
-each_born_queues : (script : Script) (n q : ℕ) (ds : List QueueDecl) → 0 < n → q + length ds ≤ 1 + length script.queues → IsTrue (list_all (λ (d : QueueDecl). nat_le d.priority 63) ds) → EachBorn script n (born_queues q ds)
+each_born_queues : (script : Script) (n q : ℕ) (ds : List QueueDecl) → 0 < n → q + length ds ≤ 1 + length script.queues
+    → IsTrue (list_all (λ (d : QueueDecl). nat_le d.priority 63) ds) → EachBorn script n (born_queues q ds)
 each_born_queues script n q [] lt declared few = tt
 each_born_queues script n q (d ∷ ds) lt declared few =
     let parts = and_parts (nat_le d.priority 63) (list_all (λ (x : QueueDecl). nat_le x.priority 63) ds) few in (
@@ -153,16 +177,19 @@ each_born script shaped =
     let first = length (born_kernel script) in
     let rest = born_processes script.threads 0 first script.processes in
     let long = length-append (born_kernel script) rest in
-    each_born-append script n (born_kernel script) rest (each_born_kernel script shaped n (omega arith)) (each_born_processes script shaped n 0 first script.processes (omega arith))
+    each_born-append script n (born_kernel script) rest (each_born_kernel script shaped n (omega arith))
+    (each_born_processes script shaped n 0 first script.processes (omega arith))
 
 -- each row at boot is a new thread's
-pub born_row : (script : Script) (n : ℕ) (bs : List Born) (i : ℕ) (row : ThreadRow) → EachBorn script n bs → get_or (map (λ b. b.thread) bs) i None ≡ Some row → IsNewThread n row
+pub born_row : (script : Script) (n : ℕ) (bs : List Born) (i : ℕ) (row : ThreadRow) → EachBorn script n bs
+    → get_or (map (λ b. b.thread) bs) i None ≡ Some row → IsNewThread n row
 born_row script n [] i row h is = cc
 born_row script n (b ∷ bs) zero row h is = h.0.row row is
 born_row script n (b ∷ bs) (suc i) row h is = born_row script n bs i row h.1 is
 
 -- and has a role that the script declares
-pub born_role : (script : Script) (n : ℕ) (bs : List Born) (i : ℕ) (row : ThreadRow) → EachBorn script n bs → get_or (map (λ b. b.thread) bs) i None ≡ Some row → IsRole script row.role
+pub born_role : (script : Script) (n : ℕ) (bs : List Born) (i : ℕ) (row : ThreadRow) → EachBorn script n bs
+    → get_or (map (λ b. b.thread) bs) i None ≡ Some row → IsRole script row.role
 born_role script n [] i row h is = cc
 born_role script n (b ∷ bs) zero row h is = h.0.declared row is
 born_role script n (b ∷ bs) (suc i) row h is = born_role script n bs i row h.1 is

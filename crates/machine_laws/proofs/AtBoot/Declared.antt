@@ -11,13 +11,17 @@ pub all-append : {A : Type 0} (P : A → Type 0) (xs ys : List A) → AllByRecur
 all-append P [] ys h k = k
 all-append P (x ∷ xs) ys h k = (h.0, all-append P xs ys h.1 k)
 
-pub all_threads : (P : Born → Type 0) → ((p k : ℕ) (d : ThreadDecl) → P (born_thread p k d)) → (j : Option ℕ) (p k : ℕ) (ds : List ThreadDecl) → AllByRecursion P (born_threads j p k ds)
+pub all_threads : (P : Born → Type 0) → ((p k : ℕ) (d : ThreadDecl) → P (born_thread p k d))
+    → (j : Option ℕ) (p k : ℕ) (ds : List ThreadDecl) → AllByRecursion P (born_threads j p k ds)
 all_threads P thread j p k [] = tt
 all_threads P thread j p k (d ∷ ds) =
     let more = all_threads P thread j p (k + 1) ds in
-    if_cases (AllByRecursion P) (is_of j d.process) (born_thread p k d ∷ born_threads j p (k + 1) ds) (born_threads j p (k + 1) ds) (λ _. (thread p k d, more)) (λ _. more)
+    if_cases (AllByRecursion P) (is_of j d.process) (born_thread p k d ∷ born_threads j p (k + 1) ds)
+    (born_threads j p (k + 1) ds) (λ _. (thread p k d, more)) (λ _. more)
 
-pub all_processes : (P : Born → Type 0) → ((p k : ℕ) (d : ThreadDecl) → P (born_thread p k d)) → ((name : List ℕ) → P (born_process name)) → (threads : List ThreadDecl) (j p : ℕ) (ds : List ProcessDecl) → AllByRecursion P (born_processes threads j p ds)
+pub all_processes : (P : Born → Type 0) → ((p k : ℕ) (d : ThreadDecl) → P (born_thread p k d))
+    → ((name : List ℕ) → P (born_process name)) → (threads : List ThreadDecl) (j p : ℕ) (ds : List ProcessDecl)
+    → AllByRecursion P (born_processes threads j p ds)
 all_processes P thread process threads j p [] = tt
 all_processes P thread process threads j p (d ∷ ds) =
     let own = born_threads (Some j) p 0 threads in

@@ -55,14 +55,33 @@ pub record IsHandle (S : State) (t : ObjNo) (h : Holder) (o : ObjNo) : Type 0 wh
   pub slot : (slot_at (table_of S owner) index).object ≡ Some o
   pub holds : (T : State) → T.references.handles ≡ S.references.handles → ((p : ObjNo) → is_some (thread_of T p) ≡ is_some (thread_of S p)) → Holds T h o
 
-same_slot : (tables other : List (List HandleSlot)) (owner : ObjNo) (i : ℕ) (o : ObjNo) → other ≡ tables → (slot_at (get_or tables owner.0 []) i).object ≡ Some o → (slot_at (get_or other owner.0 []) i).object ≡ Some o
+same_slot : (tables other : List (List HandleSlot)) (owner : ObjNo) (i : ℕ) (o : ObjNo) → other ≡ tables
+    → (slot_at (get_or tables owner.0 []) i).object ≡ Some o → (slot_at (get_or other owner.0 []) i).object ≡ Some o
 same_slot tables other owner i o same is = ap (λ (x : List (List HandleSlot)). (slot_at (get_or x owner.0 []) i).object) same ∙ is
 
-pub handle_of_thread : (S : State) (t : ObjNo) (i : ℕ) (o : ObjNo) → is_some (thread_of S t) ≡ true → (slot_at (table_of S t) i).object ≡ Some o → IsHandle S t (InThread t i) o
-handle_of_thread S t i o there is = record { own = refl; owner = t; index = i; slot = is; holds = λ T tables threads. (threads t ∙ there, same_slot S.references.handles T.references.handles t i o tables is) }
+pub handle_of_thread : (S : State) (t : ObjNo) (i : ℕ) (o : ObjNo) → is_some (thread_of S t) ≡ true
+    → (slot_at (table_of S t) i).object ≡ Some o → IsHandle S t (InThread t i) o
+handle_of_thread S t i o there is = record {
+  own = refl;
+  owner = t;
+  index = i;
+  slot = is;
+  holds = λ T tables threads. (threads t ∙ there, same_slot S.references.handles T.references.handles t i o tables is);
+}
 
-pub handle_of_process : (S : State) {t : ObjNo} (p : ObjNo) (i : ℕ) (o : ObjNo) → thread_of S p ≡ None → (slot_at (table_of S p) i).object ≡ Some o → IsHandle S t (InProcess p i) o
-handle_of_process S p i o none is = record { own = tt; owner = p; index = i; slot = is; holds = λ T tables threads. (none_of (thread_of T p) (threads p ∙ ap is_some none), same_slot S.references.handles T.references.handles p i o tables is) }
+pub handle_of_process : (S : State) {t : ObjNo} (p : ObjNo) (i : ℕ) (o : ObjNo) → thread_of S p ≡ None
+    → (slot_at (table_of S p) i).object ≡ Some o → IsHandle S t (InProcess p i) o
+handle_of_process S p i o none is = record {
+  own = tt;
+  owner = p;
+  index = i;
+  slot = is;
+  holds =
+      λ T tables threads. (
+        none_of (thread_of T p) (threads p ∙ ap is_some none),
+        same_slot S.references.handles T.references.handles p i o tables is,
+      );
+}
 
 -- moves that close a handle in an action of thread t
 pub record Closes (script : Script) (S : State) (t : ObjNo) (ms : List Move) : Type 0 where
@@ -88,7 +107,8 @@ stays_with true kept e = absurd (cc)
 stays_with false kept e = refl
 
 -- an object with a handle and a message has two references
-two_references : (S : State) (owner o : ObjNo) (i : ℕ) → (slot_at (table_of S owner) i).object ≡ Some o → 0 < total (message_names o) S.serving.messages.outstanding → dies S o ≡ false
+two_references : (S : State) (owner o : ObjNo) (i : ℕ) → (slot_at (table_of S owner) i).object ≡ Some o
+    → 0 < total (message_names o) S.serving.messages.outstanding → dies S o ≡ false
 two_references S owner o i is message =
     let within = slot_inside (table_of S owner) i o is in
     let named : slot_names o (slot_at (table_of S owner) i) ≡ same o o = ap (option_names o) is in
@@ -98,7 +118,8 @@ two_references S owner o i is message =
     stays_with (count_of S o == 1) (is_kept S o) (eqb_apart (count_of S o) 1 (λ one. absurd (omega arith)))
 
 -- what moves tell, by their first
-told_then : (t : ObjNo) (m : Move) (ms : List Move) (S : State) (n k : ℕ) → length (told m S) ≤ n → length (tell t ms (moved t m S)) ≤ k → length (tell t (m ∷ ms) S) ≤ n + k
+told_then : (t : ObjNo) (m : Move) (ms : List Move) (S : State) (n k : ℕ) → length (told m S) ≤ n
+    → length (tell t ms (moved t m S)) ≤ k → length (tell t (m ∷ ms) S) ≤ n + k
 told_then t m ms S n k first rest = let all = length-append (told m S) (tell t ms (moved t m S)) in omega arith
 
 closed_one : (last : Bool) (h : Holder) (o : ObjNo) → last ≡ false → length (closed_effects last h o) ≤ 1
@@ -114,7 +135,8 @@ closed_there : (x : Option SessionRow) → session_bit (option_map (opened false
 closed_there None = refl
 closed_there (Some row) = refl
 
-spare_closed : (script : Script) (S : State) (t s : ObjNo) → AreRows script S → was_opened (session_at S.serving.servers s) ≡ true → HasSpare (moved t (Servers (SetOpen s false)) S)
+spare_closed : (script : Script) (S : State) (t s : ObjNo) → AreRows script S
+    → was_opened (session_at S.serving.servers s) ≡ true → HasSpare (moved t (Servers (SetOpen s false)) S)
 spare_closed script S t s rows was =
     let a = total-with open_bit (option_map (opened false)) None S.serving.servers.sessions s.0 refl in
     let b = total-with session_bit (option_map (opened false)) None S.serving.servers.sessions s.0 refl in
@@ -124,7 +146,8 @@ spare_closed script S t s rows was =
     let few = rows.serving.messages.few in omega arith
 
 -- and a number
-number_closed : (script : Script) (S : State) (t s : ObjNo) → AreRows script S → was_opened (session_at S.serving.servers s) ≡ true → HasNumber (moved t (Servers (SetOpen s false)) S)
+number_closed : (script : Script) (S : State) (t s : ObjNo) → AreRows script S
+    → was_opened (session_at S.serving.servers s) ≡ true → HasNumber (moved t (Servers (SetOpen s false)) S)
 number_closed script S t s rows was =
     let a = total-with open_bit (option_map (opened false)) None S.serving.servers.sessions s.0 refl in
     let bit : open_bit (session_at S.serving.servers s) ≡ 1 = ap (λ (x : Bool). if x then 1 else 0) was in
@@ -134,7 +157,12 @@ number_closed script S t s rows was =
 module _ (script : Script) (S : State) (t : ObjNo) (h : Holder) (o : ObjNo) (may : MayClose script S t) (handle : IsHandle S t h o) where
   -- of an object that is neither an open session nor a server the handle goes
   loses-only : Closes script S t (Lose h o ∷ [])
-  loses-only = record { each = ((part_going may, handle.holds S refl (λ p. refl), handle.own), tt); told = let few = tell_few t (Lose h o ∷ []) S in omega arith; light = omega arith; calm = tame-at calling _ refl refl }
+  loses-only = record {
+    each = ((part_going may, handle.holds S refl (λ p. refl), handle.own), tt);
+    told = let few = tell_few t (Lose h o ∷ []) S in omega arith;
+    light = omega arith;
+    calm = tame-at calling _ refl refl;
+  }
 
   closes-server : is_some (server_at S.serving.servers o) ≡ true → Closes script S t (Servers (Close o) ∷ Lose h o ∷ [])
   closes-server is = record {
@@ -178,14 +206,17 @@ module _ (script : Script) (S : State) (t : ObjNo) (h : Holder) (o : ObjNo) (may
       message : Message
       message = record { number = next_number S.serving.messages; slots = slots_of S o; row = new_row o v t disconnects no_args Disconnect }
 
-  not_last : (v : ObjNo) (T : State) → T.references.handles ≡ S.references.handles → T.serving.messages ≡ (posted S closing t o v disconnects no_args Disconnect).serving.messages → dies T o ≡ false
+  not_last : (v : ObjNo) (T : State) → T.references.handles ≡ S.references.handles
+      → T.serving.messages ≡ (posted S closing t o v disconnects no_args Disconnect).serving.messages → dies T o ≡ false
   not_last v T handles messages =
       two_references T handle.owner o handle.index (same_slot S.references.handles T.references.handles handle.owner handle.index o handles handle.slot)
       (subst (λ (m : MessageRows). 0 < total (message_names o) m.outstanding) (sym messages) (named_by v))
 
-  disconnects-session : (v : ObjNo) → was_opened (session_at S.serving.servers o) ≡ true → open_server S o ≡ Some v → Closes script S t (disconnect S t o (Some v) ++ Lose h o ∷ [])
+  disconnects-session : (v : ObjNo) → was_opened (session_at S.serving.servers o) ≡ true → open_server S o ≡ Some v
+      → Closes script S t (disconnect S t o (Some v) ++ Lose h o ∷ [])
   disconnects-session v was accepts =
-      of_wake S v (owner_of S.serving.servers v) (λ (wakes : List Move). Closes script S t (Servers (SetOpen o false) ∷ Messages message ∷ wakes ++ Lose h o ∷ []))
+      of_wake S v (owner_of S.serving.servers v)
+      (λ (wakes : List Move). Closes script S t (Servers (SetOpen o false) ∷ Messages message ∷ wakes ++ Lose h o ∷ []))
       (record {
         each = (session, (accepted, ((part_going may, handle.holds T refl (λ p. refl), handle.own), tt)));
         told = told_then t (Servers (SetOpen o false)) (Messages message ∷ Lose h o ∷ []) S 0 4 (omega arith)
@@ -203,7 +234,16 @@ module _ (script : Script) (S : State) (t : ObjNo) (h : Holder) (o : ObjNo) (may
             accepted,
             (
               woken_fits script S closing t o v disconnects no_args Disconnect u row (may_post v was accepts) is receiving,
-              ((ap is_returning (mapped-value part_of (with_waiting waiting.Nothing) S.references.threads u.0 t.0 (λ r. refl)) ∙ part_going may, handle.holds W refl (λ p. mapped-some (with_waiting waiting.Nothing) S.references.threads u.0 p.0), handle.own), tt),
+              (
+                (
+                  ap is_returning (mapped-value part_of (with_waiting waiting.Nothing) S.references.threads u.0 t.0
+                      (λ r. refl)) ∙ part_going may,
+                  handle.holds W refl
+                      (λ p. mapped-some (with_waiting waiting.Nothing) S.references.threads u.0 p.0),
+                  handle.own,
+                ),
+                tt,
+              ),
             ),
           ),
         );
@@ -227,17 +267,20 @@ module _ (script : Script) (S : State) (t : ObjNo) (h : Holder) (o : ObjNo) (may
       accepted : FitsMove script t (Messages message) closing
       accepted = accepted_fits script S closing t o v disconnects no_args Disconnect refl (may_post v was accepts)
 
-  disconnects-where : (was : Bool) (v : Option ObjNo) → was_opened (session_at S.serving.servers o) ≡ was → open_server S o ≡ v → Closes script S t (disconnect S t o (if was then v else None) ++ Lose h o ∷ [])
+  disconnects-where : (was : Bool) (v : Option ObjNo) → was_opened (session_at S.serving.servers o) ≡ was
+      → open_server S o ≡ v → Closes script S t (disconnect S t o (if was then v else None) ++ Lose h o ∷ [])
   disconnects-where false v was accepts = loses-only
   disconnects-where true None was accepts = loses-only
   disconnects-where true (Some v) was accepts = disconnects-session v was accepts
 
-  closes-by : (server : Option ServerRow) → server_at S.serving.servers o ≡ server → Closes script S t (close_or o server (disconnect S t o (connected_to S o)) ++ Lose h o ∷ [])
+  closes-by : (server : Option ServerRow) → server_at S.serving.servers o ≡ server
+      → Closes script S t (close_or o server (disconnect S t o (connected_to S o)) ++ Lose h o ∷ [])
   closes-by None is = disconnects-where (was_opened (session_at S.serving.servers o)) (open_server S o) refl refl
   closes-by (Some server) is = closes-server (ap is_some is)
 
 -- the close of a handle
-pub closes : (script : Script) (S : State) (t : ObjNo) (h : Holder) (o : ObjNo) → MayClose script S t → IsHandle S t h o → Closes script S t (close_moves S t h o)
+pub closes : (script : Script) (S : State) (t : ObjNo) (h : Holder) (o : ObjNo) → MayClose script S t → IsHandle S t h o
+    → Closes script S t (close_moves S t h o)
 closes script S t h o may handle = closes-by script S t h o may handle (server_at S.serving.servers o) refl
 
 -- and the thread is at its instruction still
@@ -245,9 +288,12 @@ stay-disconnect : (script : Script) (S : State) (t s : ObjNo) (o : Option ObjNo)
 stay-disconnect script S t s None = tt
 stay-disconnect script S t s (Some o) = (stays-servers script t _, stay-post script S t s o disconnects no_args Disconnect)
 
-stay-close_or : (script : Script) (S : State) (t o : ObjNo) (server : Option ServerRow) → AllStay script t (close_or o server (disconnect S t o (connected_to S o)))
+stay-close_or : (script : Script) (S : State) (t o : ObjNo) (server : Option ServerRow)
+    → AllStay script t (close_or o server (disconnect S t o (connected_to S o)))
 stay-close_or script S t o None = stay-disconnect script S t o (connected_to S o)
 stay-close_or script S t o (Some server) = (stays-servers script t _, tt)
 
 pub stay-close : (script : Script) (S : State) (t : ObjNo) (h : Holder) (o : ObjNo) → AllStay script t (close_moves S t h o)
-stay-close script S t h o = all-both (Stays script t) (before_close S t o) (Lose h o ∷ []) (stay-close_or script S t o (server_at S.serving.servers o)) (stays-lose script t h o, tt)
+stay-close script S t h o =
+    all-both (Stays script t) (before_close S t o) (Lose h o ∷ [])
+    (stay-close_or script S t o (server_at S.serving.servers o)) (stays-lose script t h o, tt)

@@ -17,7 +17,8 @@ use Rattle.move_laws.proofs.Lists.Mapped.{made-here, made-other, mapped-some}
 use Rattle.move_laws.proofs.References.Same.{eqb_apart}
 
 -- each server that a thread owns is one
-pub owned_server : (script : Script) (S : State) (u : ObjNo) → AreRows script S → (o : ObjNo) → 0 < times_owned S.serving.owned u o → IsServer S.serving.servers o
+pub owned_server : (script : Script) (S : State) (u : ObjNo) → AreRows script S → (o : ObjNo)
+    → 0 < times_owned S.serving.owned u o → IsServer S.serving.servers o
 owned_server script S u rows o some = ap is_some (rows.serving.servers.owners u o some).is
 
 -- a server that begins to close is closing then
@@ -44,7 +45,9 @@ all_still_closing (x ∷ xs) r o is = all_still_closing xs (after_closing r x) o
 pub closed_all : (os : List ObjNo) (r : ServerRows) (o : ObjNo) → IsServer r o → 0 < total (mutex_names o) os → is_closing (all_closing os r) o ≡ true
 closed_all [] r o is some = absurd (omega arith)
 closed_all (x ∷ xs) r o is some = elim (cases_eq x.0 o.0) as (λ _. is_closing (all_closing xs (after_closing r x)) o ≡ true) [
-  | inl at ↦ all_still_closing xs (after_closing r x) o (ap closes (made-here (option_map closing) None r.servers x.0 o.0 refl at) ∙ closed_there (server_at r o) is)
+  | inl at ↦
+      all_still_closing xs (after_closing r x) o
+      (ap closes (made-here (option_map closing) None r.servers x.0 o.0 refl at) ∙ closed_there (server_at r o) is)
   | inr apart ↦
       let none : mutex_names o x ≡ 0 = ap (λ (b : Bool). if b then 1 else 0) (eqb_apart x.0 o.0 apart) in
       closed_all xs (after_closing r x) o (mapped-some closing r.servers x.0 o.0 ∙ is) (omega arith)

@@ -43,14 +43,35 @@ use Rattle.machine_laws.proofs.Fitting.Regular.{looking, plain}
 use Rattle.machine_laws.proofs.Fitting.Tame.{may_tell, tame-moves, regular-moves, tame-going}
 
 -- a piece, whatever it answers
-fits-piece : {script : Script} {S : State} {t : ObjNo} {row : ThreadRow} {instr : Instr} (told : Step) (named : may_tell plain told ≡ true) (copy : CopyMove) (piece : Piece) → IsStepping script S t row instr → begun row.part ≡ 0 → FitsCopies copy S → FitsDecision looking script t S (copy_piece t told copy piece)
+fits-piece : {script : Script} {S : State} {t : ObjNo} {row : ThreadRow} {instr : Instr} (told : Step)
+    (named : may_tell plain told ≡ true) (copy : CopyMove) (piece : Piece)
+    → IsStepping script S t row instr → begun row.part ≡ 0 → FitsCopies copy S
+    → FitsDecision looking script t S (copy_piece t told copy piece)
 fits-piece {row = row} told named copy (More done) h early fits = record {
-  each = (fits, ((record { unused = λ r is e. absurd (cc); going = is_there h; unspent = unspent h; other = refl; ends = same_row h (λ x. begun x.part ≤ 0) (omega arith) }, tt, refl), ((goes-back h part.Piece refl, refl), tt)));
+  each = (
+    fits,
+    (
+      (
+        record {
+          unused = λ r is e. absurd (cc);
+          going = is_there h;
+          unspent = unspent h;
+          other = refl;
+          ends = same_row h (λ x. begun x.part ≤ 0) (omega arith);
+        },
+        tt,
+        refl,
+      ),
+      ((goes-back h part.Piece refl, refl), tt),
+    ),
+  );
   told = omega arith;
   light = omega arith;
   regular = regular-moves _ named refl (tame-going _ refl refl refl);
 }
-fits-piece {row = row} told named copy (Whole size) h early fits = fits-answers told named (Copies copy ∷ []) (whole_answer copy size) (tame-moves _ refl refl) (fits, tt) (ends_in h refl) (omega arith) (omega arith)
+fits-piece {row = row} told named copy (Whole size) h early fits =
+    fits-answers told named (Copies copy ∷ []) (whole_answer copy size) (tame-moves _ refl refl) (fits, tt)
+    (ends_in h refl) (omega arith) (omega arith)
 fits-piece told named copy BadDescriptor h early fits = fits-refuse told named error.BadDescriptor h
 fits-piece told named copy Argument h early fits = fits-refuse told named error.Argument h
 fits-piece told named copy Overflow h early fits = fits-refuse told named error.Overflow h
@@ -61,8 +82,10 @@ taken_was : (S : State) (t : ObjNo) (found : Option Message) (message : Message)
 taken_was S t None message e = absurd (cc)
 taken_was S t (Some x) message e = by (x.row.taken && is_owner t (owner_of S.serving.servers x.row.server)) refl e
   where
-    by : (b : Bool) → (x.row.taken && is_owner t (owner_of S.serving.servers x.row.server)) ≡ b → (if b then Some x else None) ≡ Some message → message.row.taken ≡ true
-    by true both e = let same : x ≡ message = cc in ap (λ (y : Message). y.row.taken) (sym same) ∙ (and_parts x.row.taken (is_owner t (owner_of S.serving.servers x.row.server)) both).0
+    by : (b : Bool) → (x.row.taken && is_owner t (owner_of S.serving.servers x.row.server)) ≡ b
+        → (if b then Some x else None) ≡ Some message → message.row.taken ≡ true
+    by true both e = let same : x ≡ message = cc in ap (λ (y : Message). y.row.taken) (sym same)
+        ∙ (and_parts x.row.taken (is_owner t (owner_of S.serving.servers x.row.server)) both).0
     by false both e = absurd (cc)
 
 -- the message that a copy names is the one that its register's number is
@@ -77,21 +100,30 @@ named S t row y message e =
     record { here = here; taken = ap was_taken here ∙ taken_was S t found message e }
 
 -- and so are the ends of the copy
-same_ends : (S : State) (t : ObjNo) (row : ThreadRow) (message : Message) (job : Job) → thread_of S t ≡ Some row → message_of S.serving.messages message.number ≡ Some message → job.m ≡ message.number → job.caller ≡ t → ends_of S.references.threads S.serving.messages job ≡ message_ends S row message job.arg
+same_ends : (S : State) (t : ObjNo) (row : ThreadRow) (message : Message) (job : Job) → thread_of S t ≡ Some row
+    → message_of S.serving.messages message.number ≡ Some message → job.m ≡ message.number → job.caller ≡ t
+    → ends_of S.references.threads S.serving.messages job ≡ message_ends S row message job.arg
 same_ends S t row message job is here number caller =
-    ap (λ (found : Option MsgRow). ends_at S.references.threads found job) (ap (λ (m : MsgNo). option_map (λ (x : Message). x.row) (message_of S.serving.messages m)) number ∙ ap (option_map (λ (x : Message). x.row)) here)
+    ap (λ (found : Option MsgRow). ends_at S.references.threads found job)
+    (ap (λ (m : MsgNo). option_map (λ (x : Message). x.row) (message_of S.serving.messages m)) number
+    ∙ ap (option_map (λ (x : Message). x.row)) here)
     ∙ ap (λ (r : Option ThreadRow). ends_between (thread_of S message.row.client) r message.row job.arg) (ap (thread_of S) caller ∙ is)
 
 -- a step that isn't the last of its instruction
-fits-early : {script : Script} {S : State} {t : ObjNo} (row : ThreadRow) (d : Decision) (p : Option Part) → row.part ≡ p → (begun row.part ≡ 0 → FitsDecision looking script t S d) → FitsDecision looking script t S (unless_done p d)
+fits-early : {script : Script} {S : State} {t : ObjNo} (row : ThreadRow) (d : Decision) (p : Option Part) → row.part ≡ p
+    → (begun row.part ≡ 0 → FitsDecision looking script t S d) → FitsDecision looking script t S (unless_done p d)
 fits-early {script = script} {S = S} {t = t} row d (Some part.Done) at fits = fits-nothing script S t
 fits-early row d _ at fits = fits (ap begun at)
 
 -- `read`
-pub fits-read : {script : Script} {S : State} {t : ObjNo} {row : ThreadRow} (y arg offset size at : ℕ) (p : Option Part) → IsStepping script S t row (instr.Read y arg offset size at) → row.part ≡ p → FitsDecision looking script t S (read_step S t row y arg offset size at p)
-fits-read {script = script} {S = S} {t = t} {row = row} y arg offset size at p h is = fits-early row (read_piece S t row y arg offset size at) p is (λ early. by early (message_at S t row y) refl)
+pub fits-read : {script : Script} {S : State} {t : ObjNo} {row : ThreadRow} (y arg offset size at : ℕ) (p : Option Part)
+    → IsStepping script S t row (instr.Read y arg offset size at) → row.part ≡ p
+    → FitsDecision looking script t S (read_step S t row y arg offset size at p)
+fits-read {script = script} {S = S} {t = t} {row = row} y arg offset size at p h is =
+    fits-early row (read_piece S t row y arg offset size at) p is (λ early. by early (message_at S t row y) refl)
   where
-    by : begun row.part ≡ 0 → (found : Option Message) → message_at S t row y ≡ found → FitsDecision looking script t S (read_from S t row arg offset size at found)
+    by : begun row.part ≡ 0 → (found : Option Message) → message_at S t row y ≡ found
+        → FitsDecision looking script t S (read_from S t row arg offset size at found)
     by early None e = fits-refuse (Of word.Read part.Piece) refl error.BadHandle h
     by early (Some message) e =
         let names = named S t row y message e in
@@ -100,13 +132,19 @@ fits-read {script = script} {S = S} {t = t} {row = row} y arg offset size at p h
         let job : Job = next_job row first (read_size ends first) in
         let same = ap (λ (e : Ends). read_size e job) (same_ends S t row message job h.is names.here refl refl) in
         let few = read_small y arg offset size at h.ranges in
-        fits-piece (Of word.Read part.Piece) refl (Read job) (read_answer ends job) h early (record { taken = names.taken; arg = omega arith; done = omega arith })
+        fits-piece (Of word.Read part.Piece) refl (Read job) (read_answer ends job) h early
+        (record { taken = names.taken; arg = omega arith; done = omega arith })
 
 -- `write`
-pub fits-write : {script : Script} {S : State} {t : ObjNo} {row : ThreadRow} (y arg offset size from : ℕ) (p : Option Part) → IsStepping script S t row (instr.Write y arg offset size from) → row.part ≡ p → FitsDecision looking script t S (write_step S t row y arg offset size from p)
-fits-write {script = script} {S = S} {t = t} {row = row} y arg offset size from p h is = fits-early row (write_piece S t row y arg offset size from) p is (λ early. by early (message_at S t row y) refl)
+pub fits-write : {script : Script} {S : State} {t : ObjNo} {row : ThreadRow} (y arg offset size from : ℕ)
+    (p : Option Part)
+    → IsStepping script S t row (instr.Write y arg offset size from) → row.part ≡ p
+    → FitsDecision looking script t S (write_step S t row y arg offset size from p)
+fits-write {script = script} {S = S} {t = t} {row = row} y arg offset size from p h is =
+    fits-early row (write_piece S t row y arg offset size from) p is (λ early. by early (message_at S t row y) refl)
   where
-    by : begun row.part ≡ 0 → (found : Option Message) → message_at S t row y ≡ found → FitsDecision looking script t S (write_from S t row arg offset size from found)
+    by : begun row.part ≡ 0 → (found : Option Message) → message_at S t row y ≡ found
+        → FitsDecision looking script t S (write_from S t row arg offset size from found)
     by early None e = fits-refuse (Of word.Write part.Piece) refl error.BadHandle h
     by early (Some message) e =
         let names = named S t row y message e in
@@ -114,4 +152,5 @@ fits-write {script = script} {S = S} {t = t} {row = row} y arg offset size from 
         let first : Job = first_job t message arg offset size from in
         let job : Job = next_job row first (write_size first) in
         let few = write_small y arg offset size from h.ranges in
-        fits-piece (Of word.Write part.Piece) refl (Write job) (write_answer ends job) h early (record { taken = names.taken; arg = omega arith; done = omega arith })
+        fits-piece (Of word.Write part.Piece) refl (Write job) (write_answer ends job) h early
+        (record { taken = names.taken; arg = omega arith; done = omega arith })

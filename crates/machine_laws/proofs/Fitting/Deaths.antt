@@ -65,12 +65,15 @@ live-of (Some row) e = (row, refl, by (refusal_of_role row.role) e)
     by None e = live-by row.stage e
 
 -- a doom, or a note of a protected thread's exit
-after-doom_or_note : (script : Script) (S : State) (t u : ObjNo) (row : ThreadRow) (exit : Exit) → AreRows script S → thread_of S u ≡ Some row → row.stage ≡ Live → GoOnAfter script S t (doom_or_note S u exit)
+after-doom_or_note : (script : Script) (S : State) (t u : ObjNo) (row : ThreadRow) (exit : Exit) → AreRows script S
+    → thread_of S u ≡ Some row → row.stage ≡ Live → GoOnAfter script S t (doom_or_note S u exit)
 after-doom_or_note script S t u row exit rows is live =
     if_cases (GoOnAfter script S t) (is_protected S.synchronization.nano u) _ _
     (λ _. record {
       each = (tt, tt);
-      at = at-with_row script S (moved t (move.Death (Note u exit)) S) t u (death_row (Note u exit)) (record { role = λ r. refl; next = λ r. refl; going = λ r e. e }) refl;
+      at =
+          at-with_row script S (moved t (move.Death (Note u exit)) S) t u (death_row (Note u exit))
+          (record { role = λ r. refl; next = λ r. refl; going = λ r e. e }) refl;
       told = omega arith;
       light = refl;
       calm = tame-moves _ refl refl;
@@ -78,15 +81,19 @@ after-doom_or_note script S t u row exit rows is live =
     (λ free. after-doom script S t u exit (may_die script S u row rows is live (unprotected_unheld S.synchronization.nano u free)))
 
 -- `kill`, `terminate` and `panic`
-pub fits-exit_step : {script : Script} {S : State} {t : ObjNo} {row : ThreadRow} {instr : Instr} (word : Word) (named : may_tell plain (step.Of word part.Do) ≡ true) (x : ℕ) (exit : Exit) (p : Option Part) → IsStepping script S t row instr → row.part ≡ p → FitsDecision looking script t S (exit_step S t row word x exit p)
+pub fits-exit_step : {script : Script} {S : State} {t : ObjNo} {row : ThreadRow} {instr : Instr} (word : Word)
+    (named : may_tell plain (step.Of word part.Do) ≡ true) (x : ℕ) (exit : Exit) (p : Option Part)
+    → IsStepping script S t row instr → row.part ≡ p → FitsDecision looking script t S (exit_step S t row word x exit p)
 fits-exit_step word named x exit None h at = fits-look_kind kind.Thread word x refl refl h (ap is_before_use at)
 fits-exit_step {script = script} {S = S} {t = t} {row = row} word named x exit (Some p) h at = on row.uses
   where
-    dies : (u : ObjNo) (r : ThreadRow) (was : Option Exit) → thread_of S u ≡ Some r → r.stage ≡ Live → FitsDecision looking script t S (exit_unless_noted S t u word exit was)
+    dies : (u : ObjNo) (r : ThreadRow) (was : Option Exit) → thread_of S u ≡ Some r → r.stage ≡ Live
+        → FitsDecision looking script t S (exit_unless_noted S t u word exit was)
     dies u r (Some was) is live = fits-refuse (step.Of word part.Do) named error.Died h
     dies u r None is live = fits-after (step.Of word part.Do) named (doom_or_note S u exit) h (after-doom_or_note script S t u r exit h.rows is live)
 
-    refused : (u : ObjNo) (refusal : Option Error) → refusal_of (thread_of S u) ≡ refusal → FitsDecision looking script t S (exit_unless_refused S t u word exit refusal)
+    refused : (u : ObjNo) (refusal : Option Error) → refusal_of (thread_of S u) ≡ refusal
+        → FitsDecision looking script t S (exit_unless_refused S t u word exit refusal)
     refused u (Some refusal) e = fits-refuse (step.Of word part.Do) named refusal h
     refused u None e = let live = live-of (thread_of S u) e in dies u live.0 (noted_of S u) live.1 live.2
 
@@ -95,7 +102,9 @@ fits-exit_step {script = script} {S = S} {t = t} {row = row} word named x exit (
     on (Some u) = refused u (refusal_of (thread_of S u)) refl
 
 -- `exittype`
-pub fits-exittype : {script : Script} {S : State} {t : ObjNo} {row : ThreadRow} {instr : Instr} (x : ℕ) (p : Option Part) → IsStepping script S t row instr → row.part ≡ p → FitsDecision looking script t S (exittype_step S t row x p)
+pub fits-exittype : {script : Script} {S : State} {t : ObjNo} {row : ThreadRow} {instr : Instr} (x : ℕ)
+    (p : Option Part)
+    → IsStepping script S t row instr → row.part ≡ p → FitsDecision looking script t S (exittype_step S t row x p)
 fits-exittype x None h at = fits-look_kind kind.Thread word.Exittype x refl refl h (ap is_before_use at)
 fits-exittype {script = script} {S = S} {t = t} {row = row} x (Some p) h at = on row.uses
   where
@@ -104,15 +113,24 @@ fits-exittype {script = script} {S = S} {t = t} {row = row} x (Some p) h at = on
     on (Some u) = fits-answer (step.Of word.Exittype part.Do) refl (pos (exit_type (thread_of S u))) h
 
 -- `exit`
-pub fits-exit : {script : Script} {S : State} {t : ObjNo} {row : ThreadRow} {instr : Instr} (reason : ℤ) → IsStepping script S t row instr → is_returning row.part ≡ false → FitsDecision looking script t S (exit_do S t reason)
+pub fits-exit : {script : Script} {S : State} {t : ObjNo} {row : ThreadRow} {instr : Instr} (reason : ℤ)
+    → IsStepping script S t row instr → is_returning row.part ≡ false
+    → FitsDecision looking script t S (exit_do S t reason)
 fits-exit {script = script} {S = S} {t = t} {row = row} reason h going =
     if_cases (FitsDecision looking script t S) (is_protected S.synchronization.nano t) _ _ (λ _. fits-refuse (step.Of word.Exit part.Do) refl error.InUse h)
     (λ free.
     let after = after-doom script S t t (killed reason) (may_die script S t row h.rows h.is h.live (unprotected_unheld S.synchronization.nano t free)) in
-    record { each = after.each; told = let few = after.told in omega arith; light = let none = after.light in omega arith; regular = regular-moves _ refl refl (tame-in after.calm) })
+    record {
+      each = after.each;
+      told = let few = after.told in omega arith;
+      light = let none = after.light in
+          omega arith;
+      regular = regular-moves _ refl refl (tame-in after.calm);
+    })
 
 -- a status that comes to be pending is awaited, and no logon has it
-pub set_awaited : (count : ℕ) (r : RequestRows) (t : ObjNo) (s : ℕ) → AreRequests count r → t.0 < length r.signals → s < 16 → is_pending r t s ≡ false → IsAwaited (after_set_pending r t s) t s
+pub set_awaited : (count : ℕ) (r : RequestRows) (t : ObjNo) (s : ℕ) → AreRequests count r → t.0 < length r.signals
+    → s < 16 → is_pending r t s ≡ false → IsAwaited (after_set_pending r t s) t s
 set_awaited count r t s h known small done = record {
   thread = known;
   status = small;
@@ -125,14 +143,19 @@ set_awaited count r t s h known small done = record {
   alone = λ d has. let waits = h.pending d _ has in absurd (cc);
 }
 
-pub not_logged : (count : ℕ) (r : RequestRows) (logons : List (List (ObjNo × ℕ))) (t : ObjNo) (s : ℕ) → AreLogons count r logons → is_pending r t s ≡ false → times_logged logons t s ≡ 0
+pub not_logged : (count : ℕ) (r : RequestRows) (logons : List (List (ObjNo × ℕ))) (t : ObjNo) (s : ℕ)
+    → AreLogons count r logons → is_pending r t s ≡ false → times_logged logons t s ≡ 0
 not_logged count r logons t s h done = elim (cases_lt 0 (times_logged logons t s)) as (λ _. times_logged logons t s ≡ 0) [
   | inl some ↦ let waits = (h.waits t s some).waits in absurd (cc)
   | inr none ↦ omega arith
 ]
 
 -- `logon`
-fits-logon_do : {script : Script} {S : State} {t : ObjNo} {row : ThreadRow} {instr : Instr} (s : ℕ) (u : ObjNo) (r : ThreadRow) → IsStepping script S t row instr → is_returning row.part ≡ false → s < 16 → is_pending S.synchronization.requests t s ≡ false → thread_of S u ≡ Some r → FitsDecision looking script t S (logon_row t u s (Some r))
+fits-logon_do : {script : Script} {S : State} {t : ObjNo} {row : ThreadRow} {instr : Instr} (s : ℕ) (u : ObjNo)
+    (r : ThreadRow)
+    → IsStepping script S t row instr → is_returning row.part ≡ false → s < 16
+    → is_pending S.synchronization.requests t s ≡ false → thread_of S u ≡ Some r
+    → FitsDecision looking script t S (logon_row t u s (Some r))
 fits-logon_do {script = script} {S = S} {t = t} {row = row} s u r h going small done is = by r.stage refl
   where
     awaited : IsAwaited (after_set_pending S.synchronization.requests t s) t s
@@ -141,31 +164,60 @@ fits-logon_do {script = script} {S = S} {t = t} {row = row} s u r h going small 
     unlogged : times_logged S.synchronization.logons t s ≡ 0
     unlogged = not_logged (length S.references.threads) S.synchronization.requests S.synchronization.logons t s h.rows.synchronization.logons done
 
-    with : (m : Move) → FitsMove script t m (moved t (move.Requests (SetPending t s)) S) → (moved t m (moved t (move.Requests (SetPending t s)) S)).references.threads ≡ S.references.threads → most_told m ≤ 1 → most_owed m ≡ 0 → IsTame plain 0 (m ∷ []) → FitsDecision looking script t S (answer t (step.Of word.Logon part.Do) (move.Requests (SetPending t s) ∷ m ∷ []) (pos 0))
-    with m fits same few light calm = fits-answers (step.Of word.Logon part.Do) refl (move.Requests (SetPending t s) ∷ m ∷ []) (pos 0) (tame-both (move.Requests (SetPending t s) ∷ []) (m ∷ []) (let few = calm.loses in omega arith) (tame-moves _ refl refl) (tame-in calm)) (((has_signals h, small), tt), (fits, tt))
+    with : (m : Move) → FitsMove script t m (moved t (move.Requests (SetPending t s)) S)
+        → (moved t m (moved t (move.Requests (SetPending t s)) S)).references.threads ≡ S.references.threads → most_told m
+        ≤ 1 → most_owed m ≡ 0 → IsTame plain 0 (m ∷ [])
+        → FitsDecision looking script t S (answer t (step.Of word.Logon part.Do) (move.Requests (SetPending t s) ∷ m ∷ [])
+        (pos 0))
+    with m fits same few light calm = fits-answers (step.Of word.Logon part.Do) refl
+        (move.Requests (SetPending t s) ∷ m ∷ []) (pos 0)
+        (tame-both (move.Requests (SetPending t s) ∷ []) (m ∷ []) (let few = calm.loses in omega arith)
+        (tame-moves _ refl refl) (tame-in calm)) (((has_signals h, small), tt), (fits, tt))
         (ends_in h same) (omega arith) (omega arith)
 
-    added : is_spent r.stage ≡ false → FitsDecision looking script t S (answer t (step.Of word.Logon part.Do) (move.Requests (SetPending t s) ∷ move.Logons (Add u t s) ∷ []) (pos 0))
-    added unspent = with (move.Logons (Add u t s)) (inside S.references.threads u.0 r is, awaited, unlogged, not_sent script S t s h.rows done, live_thread h, λ x at. let same : r ≡ x = (let a = is in cc) in subst (λ (y : ThreadRow). is_spent y.stage ≡ false) same unspent, ap is_some is) refl (omega arith) refl (tame-moves _ refl refl)
+    added : is_spent r.stage ≡ false → FitsDecision looking script t S
+        (answer t (step.Of word.Logon part.Do) (move.Requests (SetPending t s) ∷ move.Logons (Add u t s) ∷ []) (pos 0))
+    added unspent = with (move.Logons (Add u t s)) (
+      inside S.references.threads u.0 r is,
+      awaited,
+      unlogged,
+      not_sent script S t s h.rows done,
+      live_thread h,
+      λ x at. let same : r ≡ x = (let a = is in cc) in subst (λ (y : ThreadRow). is_spent y.stage ≡ false) same unspent,
+      ap is_some is,
+    ) refl (omega arith) refl (tame-moves _ refl refl)
 
-    signalled : FitsDecision looking script t S (answer t (step.Of word.Logon part.Do) (move.Requests (SetPending t s) ∷ move.Requests (Signal t s (reason_of r.exit)) ∷ []) (pos 0))
-    signalled = with (move.Requests (Signal t s (reason_of r.exit))) ((awaited, unlogged), (live_thread h, not_sent script S t s h.rows done)) refl (omega arith) refl (tame-moves _ refl refl)
+    signalled : FitsDecision looking script t S
+        (answer t (step.Of word.Logon part.Do) (move.Requests (SetPending t s) ∷ move.Requests
+        (Signal t s (reason_of r.exit)) ∷ []) (pos 0))
+    signalled =
+        with (move.Requests (Signal t s (reason_of r.exit)))
+        ((awaited, unlogged), (live_thread h, not_sent script S t s h.rows done)) refl (omega arith) refl
+        (tame-moves _ refl refl)
 
-    by : (stage : Stage) → r.stage ≡ stage → FitsDecision looking script t S (answer t (step.Of word.Logon part.Do) (move.Requests (SetPending t s) ∷ logon_move t u s r.exit stage ∷ []) (pos 0))
+    by : (stage : Stage) → r.stage ≡ stage → FitsDecision looking script t S
+        (answer t (step.Of word.Logon part.Do) (move.Requests (SetPending t s) ∷ logon_move t u s r.exit stage ∷ [])
+        (pos 0))
     by Live at = added (ap is_spent at)
     by Doomed at = added (ap is_spent at)
     by Cleaned at = signalled
     by Buried at = signalled
 
-pub fits-logon : {script : Script} {S : State} {t : ObjNo} {row : ThreadRow} (x s : ℕ) (p : Option Part) → IsStepping script S t row (instr.Logon x s) → is_returning row.part ≡ false → row.part ≡ p → FitsDecision looking script t S (logon_step S t row x s p)
+pub fits-logon : {script : Script} {S : State} {t : ObjNo} {row : ThreadRow} (x s : ℕ) (p : Option Part)
+    → IsStepping script S t row (instr.Logon x s) → is_returning row.part ≡ false → row.part ≡ p
+    → FitsDecision looking script t S (logon_step S t row x s p)
 fits-logon {script = script} {S = S} {t = t} {row = row} x s None h going at =
-    if_cases (FitsDecision looking script t S) (is_pending S.synchronization.requests t s) _ _ (λ _. fits-refuse (step.Of word.Logon part.Look) refl error.InUse h) (λ _. fits-look_kind kind.Thread word.Logon x refl refl h (ap is_before_use at))
+    if_cases (FitsDecision looking script t S) (is_pending S.synchronization.requests t s) _ _
+    (λ _. fits-refuse (step.Of word.Logon part.Look) refl error.InUse h)
+    (λ _. fits-look_kind kind.Thread word.Logon x refl refl h (ap is_before_use at))
 fits-logon {script = script} {S = S} {t = t} {row = row} x s (Some p) h going at = on row.uses
   where
-    there : (u : ObjNo) (r : Option ThreadRow) → thread_of S u ≡ r → is_pending S.synchronization.requests t s ≡ false → FitsDecision looking script t S (logon_row t u s r)
+    there : (u : ObjNo) (r : Option ThreadRow) → thread_of S u ≡ r → is_pending S.synchronization.requests t s ≡ false
+        → FitsDecision looking script t S (logon_row t u s r)
     there u None is done = fits-nothing script S t
     there u (Some r) is done = let few = logon_small x s h.ranges in fits-logon_do s u r h going (omega arith) done is
 
     on : (uses : Option ObjNo) → FitsDecision looking script t S (logon_do S t s uses)
     on None = fits-nothing script S t
-    on (Some u) = if_cases (FitsDecision looking script t S) (is_pending S.synchronization.requests t s) _ _ (λ _. fits-nothing script S t) (λ done. there u (thread_of S u) refl done)
+    on (Some u) = if_cases (FitsDecision looking script t S) (is_pending S.synchronization.requests t s) _ _
+        (λ _. fits-nothing script S t) (λ done. there u (thread_of S u) refl done)

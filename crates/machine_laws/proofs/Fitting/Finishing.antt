@@ -40,7 +40,8 @@ use Rattle.machine_laws.proofs.Fitting.Tame.{tame-at, tame-both, tame-moves}
 use Rattle.machine.specs.Bodies.{end_wait, ends_wait}
 
 -- a message that is outstanding stands at its number
-pub at_number : (S : State) (m : MsgNo) (message : Message) → message_of S.serving.messages m ≡ Some message → message_of S.serving.messages message.number ≡ Some message
+pub at_number : (S : State) (m : MsgNo) (message : Message) → message_of S.serving.messages m ≡ Some message
+    → message_of S.serving.messages message.number ≡ Some message
 at_number S m message found =
     let number = eqb-true message.number.0 m.0 (found_there (has_number m) S.serving.messages.outstanding message found).1 in
     subst (λ (n : MsgNo). message_of S.serving.messages n ≡ Some message) (same_number m message.number (sym number)) found
@@ -61,7 +62,10 @@ tame-end S u s None = tame-moves [] refl refl
 tame-end {k = k} S u s (Some row) = if_cases (IsTame k 0) (ends_wait S u s row.waiting) _ _ (λ _. tame-moves _ refl refl) (λ _. tame-moves [] refl refl)
 
 tame-reply : {k : Kinds} (S : State) (u : ObjNo) (row : ThreadRow) (code : ℤ) (way : Way) → IsTame k 0 (reply S u row code way)
-tame-reply S u row code (Async s) = tame-both (Requests (Signal u s code) ∷ []) (end_wait S u s (Some row)) (let few = (tame-end {k = plain} S u s (Some row)).loses in omega arith) (tame-moves _ refl refl) (tame-end S u s (Some row))
+tame-reply S u row code (Async s) =
+    tame-both (Requests (Signal u s code) ∷ []) (end_wait S u s (Some row))
+    (let few = (tame-end {k = plain} S u s (Some row)).loses in omega arith) (tame-moves _ refl refl)
+    (tame-end S u s (Some row))
 tame-reply S u row code Sync = tame-moves _ refl refl
 tame-reply S u row code Disconnect = tame-moves [] refl refl
 
@@ -73,20 +77,27 @@ tame-reply_to {k = k} S u code way (Some row) = if_cases (IsTame k 0) (is_live r
 abbrev finished : State → ObjNo → Message → ℤ → State
 finished S t message code = moved t (Messages (Finish message.number code)) S
 
-module _ (script : Script) (S : State) (t : ObjNo) (message : Message) (code : ℤ) (rows : AreRows script S) (found : message_of S.serving.messages message.number ≡ Some message) where
+module _ (script : Script) (S : State) (t : ObjNo) (message : Message) (code : ℤ) (rows : AreRows script S)
+    (found : message_of S.serving.messages message.number ≡ Some message) where
   -- of a thread it was the only one of its status, and the only one whose end it waits for
-  sent_once : (u : ObjNo) (s : ℕ) → message.row.client ≡ u → message.row.way ≡ Async s → (0 < times_sent S.serving.messages.outstanding u s) × (times_sent (finished S t message code).serving.messages.outstanding u s ≡ 0)
+  sent_once : (u : ObjNo) (s : ℕ) → message.row.client ≡ u → message.row.way ≡ Async s
+      → (0 < times_sent S.serving.messages.outstanding u s)
+      × (times_sent (finished S t message code).serving.messages.outstanding u s ≡ 0)
   sent_once u s client way =
-      let one : sent_names u s message ≡ 1 = ap (λ (w : Way). if is_sent u s message.row.client w then 1 else 0) way ∙ ap (λ (c : ObjNo). if is_sent u s c (Async s) then 1 else 0) client ∙ self u s in
+      let one : sent_names u s message ≡ 1 = ap (λ (w : Way). if is_sent u s message.row.client w then 1 else 0) way
+      ∙ ap (λ (c : ObjNo). if is_sent u s c (Async s) then 1 else 0) client ∙ self u s in
       let goes = one_goes (sent_names u s) message.number S.serving.messages.outstanding message rows.serving.messages.rising found in
       let most = rows.serving.messages.sent u s in (omega arith, omega arith)
     where
       self : (u : ObjNo) (s : ℕ) → ◌≡◌ {A = ℕ} (if is_sent u s u (Async s) then 1 else 0) 1
       self u s = rw (eq-eqb u.0 u.0 refl, eq-eqb s s refl) refl
 
-  called_once : (u : ObjNo) → message.row.client ≡ u → message.row.way ≡ Sync → (0 < times_called S.serving.messages.outstanding u) × (times_called (finished S t message code).serving.messages.outstanding u ≡ 0)
+  called_once : (u : ObjNo) → message.row.client ≡ u → message.row.way ≡ Sync
+      → (0 < times_called S.serving.messages.outstanding u)
+      × (times_called (finished S t message code).serving.messages.outstanding u ≡ 0)
   called_once u client way =
-      let one : call_names u message ≡ 1 = ap (λ (w : Way). if is_called u message.row.client w then 1 else 0) way ∙ ap (λ (c : ObjNo). if is_called u c Sync then 1 else 0) client ∙ self u in
+      let one : call_names u message ≡ 1 = ap (λ (w : Way). if is_called u message.row.client w then 1 else 0) way
+      ∙ ap (λ (c : ObjNo). if is_called u c Sync then 1 else 0) client ∙ self u in
       let goes = one_goes (call_names u) message.number S.serving.messages.outstanding message rows.serving.messages.rising found in
       let most = rows.serving.messages.called u in (omega arith, omega arith)
     where
@@ -102,7 +113,9 @@ module _ (script : Script) (S : State) (t : ObjNo) (message : Message) (code : �
   left servers = record (finished S t message code) { serving = record ((finished S t message code).serving) { servers = servers } }
 
   -- a status is completed, and the wait for it ends
-  tells-status : (servers : ServerRows) (u : ObjNo) (row : ThreadRow) (s : ℕ) → thread_of S u ≡ Some row → row.stage ≡ Live → message.row.client ≡ u → message.row.way ≡ Async s → OwesNothing serving script t (left servers) (reply S u row code (Async s)) 1
+  tells-status : (servers : ServerRows) (u : ObjNo) (row : ThreadRow) (s : ℕ) → thread_of S u ≡ Some row
+      → row.stage ≡ Live → message.row.client ≡ u → message.row.way ≡ Async s
+      → OwesNothing serving script t (left servers) (reply S u row code (Async s)) 1
   tells-status servers u row s is live client way =
       let once = sent_once u s client way in
       let untold = rows.serving.messages.awaited u s once.0 in
@@ -111,37 +124,59 @@ module _ (script : Script) (S : State) (t : ObjNo) (message : Message) (code : �
       (light-end script S (moved t (Requests (Signal u s code)) (left servers)) t u s (Some row) rows refl refl (called_fewer u) is)
 
   -- a reply is given, and the wait for it ends
-  tells-reply : (servers : ServerRows) (u : ObjNo) (row : ThreadRow) → thread_of S u ≡ Some row → row.stage ≡ Live → message.row.client ≡ u → message.row.way ≡ Sync → OwesNothing serving script t (left servers) (reply S u row code Sync) 1
+  tells-reply : (servers : ServerRows) (u : ObjNo) (row : ThreadRow) → thread_of S u ≡ Some row → row.stage ≡ Live
+      → message.row.client ≡ u → message.row.way ≡ Sync
+      → OwesNothing serving script t (left servers) (reply S u row code Sync) 1
   tells-reply servers u row is live client way =
       let once = called_once u client way in
       let waits = rows.serving.messages.replies u row once.0 is live in
       let within = inside S.references.threads u.0 row is in
       let sized = rows.synchronization.requests.sized in
       record {
-        each = ((omega arith, record { row = row; is = is; live = live }), ((waits_nowhere script S u row rows is (λ o e. absurd (cc)), λ r at lives. once.1), tt));
+        each = (
+          (omega arith, record { row = row; is = is; live = live }),
+          ((waits_nowhere script S u row rows is (λ o e. absurd (cc)), λ r at lives. once.1), tt),
+        );
         told = omega arith;
         light = refl;
         calm = tame-moves _ refl refl;
       }
 
-  tells : (servers : ServerRows) (u : ObjNo) (row : ThreadRow) (way : Way) → thread_of S u ≡ Some row → row.stage ≡ Live → message.row.client ≡ u → message.row.way ≡ way → OwesNothing serving script t (left servers) (reply S u row code way) 1
+  tells : (servers : ServerRows) (u : ObjNo) (row : ThreadRow) (way : Way) → thread_of S u ≡ Some row → row.stage ≡ Live
+      → message.row.client ≡ u → message.row.way ≡ way
+      → OwesNothing serving script t (left servers) (reply S u row code way) 1
   tells servers u row (Async s) is live client way = tells-status servers u row s is live client way
   tells servers u row Sync is live client way = tells-reply servers u row is live client way
   tells servers u row Disconnect is live client way = no_moves script (left servers) t 1
 
-  tells-client : (servers : ServerRows) (row : Option ThreadRow) → thread_of S message.row.client ≡ row → OwesNothing serving script t (left servers) (reply_to S message.row.client code message.row.way row) 1
+  tells-client : (servers : ServerRows) (row : Option ThreadRow) → thread_of S message.row.client ≡ row
+      → OwesNothing serving script t (left servers) (reply_to S message.row.client code message.row.way row) 1
   tells-client servers None is = no_moves script (left servers) t 1
   tells-client servers (Some row) is =
       if_cases (λ (ms : List Move). OwesNothing serving script t (left servers) ms 1) (is_live row.stage) _ _
       (λ live. tells servers message.row.client row message.row.way is (live_by row.stage live) refl refl) (λ _. no_moves script (left servers) t 1)
 
   -- the session closes where a connection is refused, and the client is told
-  ends : OwesNothing serving script t (finished S t message code) (close_refused message code ++ reply_to S message.row.client code message.row.way (thread_of S message.row.client)) 1
-  ends = if_cases (λ (ms : List Move). OwesNothing serving script t (finished S t message code) (ms ++ reply_to S message.row.client code message.row.way (thread_of S message.row.client)) 1) (is_refused message code) _ _
+  ends : OwesNothing serving script t (finished S t message code)
+      (close_refused message code ++ reply_to S message.row.client code message.row.way
+      (thread_of S message.row.client)) 1
+  ends =
+      if_cases (λ (ms : List Move). OwesNothing serving script t (finished S t message code)
+      (ms ++ reply_to S message.row.client code message.row.way (thread_of S message.row.client)) 1)
+      (is_refused message code) _ _
       (λ _.
       let closes = SetOpen message.row.session false in
       light-then script (finished S t message code) t (Servers closes ∷ []) _ 0 1 1 (omega arith)
-      (record { each = (rows.serving.messages.sessions message (found_there (has_number message.number) S.serving.messages.outstanding message found).0, tt); told = omega arith; light = refl; calm = tame-moves _ refl refl })
+      (record {
+        each = (
+          rows.serving.messages.sessions message
+              (found_there (has_number message.number) S.serving.messages.outstanding message found).0,
+          tt,
+        );
+        told = omega arith;
+        light = refl;
+        calm = tame-moves _ refl refl;
+      })
       (tells-client (servers_moved closes S.serving.owned S.serving.servers) (thread_of S message.row.client) refl))
       (λ _. tells-client S.serving.servers (thread_of S message.row.client) refl)
 
@@ -152,7 +187,8 @@ pub record Finishes (script : Script) (S : State) (t : ObjNo) (ms : List Move) :
   pub light : total most_owed ms ≤ 8
   pub calm : IsTame serving 0 ms
 
-pub finishes : (script : Script) (S : State) (t : ObjNo) (m : MsgNo) (message : Message) (code : ℤ) → AreRows script S → MayOweMore S t → message_of S.serving.messages m ≡ Some message → Finishes script S t (finish S message code)
+pub finishes : (script : Script) (S : State) (t : ObjNo) (m : MsgNo) (message : Message) (code : ℤ) → AreRows script S
+    → MayOweMore S t → message_of S.serving.messages m ≡ Some message → Finishes script S t (finish S message code)
 finishes script S t m message code rows may at =
     let found = at_number S m message at in
     let more = ends script S t message code rows found in

@@ -35,7 +35,9 @@ pub few : {k : Kinds} {script : Script} {S : State} {t : ObjNo} {d : Decision} �
 few {script = script} {S = S} {t = t} {d = d} fits = by_kinds script S t d fits
 
 -- the steps of instructions fit
-pub fits-step : (script : Script) (S : State) (t : ObjNo) (row : ThreadRow) (instr : Instr) (p : Option Part) → IsStepping script S t row instr → is_returning row.part ≡ false → row.part ≡ p → FitsStep (kind_of instr p) script t S (step_of script S t row instr p)
+pub fits-step : (script : Script) (S : State) (t : ObjNo) (row : ThreadRow) (instr : Instr) (p : Option Part)
+    → IsStepping script S t row instr → is_returning row.part ≡ false → row.part ≡ p
+    → FitsStep (kind_of instr p) script t S (step_of script S t row instr p)
 fits-step script S t row (instr.CreateMutex name x) p h going at = few (fits-create_mutex name x h)
 fits-step script S t row (instr.CreateSemaphore name count x) p h going at = few (fits-create_semaphore name count x h)
 fits-step script S t row (instr.Open kind name x) p h going at = few (fits-open kind name x p h h.registers at)
@@ -65,7 +67,8 @@ fits-step script S t row (instr.Fill at length byte) p h going is = few (fits-fi
 fits-step script S t row (instr.Peek at) p h going is = few (fits-peek at h)
 fits-step script S t row (instr.Kill x reason) p h going at = few (fits-exit_step word.Kill refl x (plain_exit kind.Kill reason) p h at)
 fits-step script S t row (instr.Terminate x reason) p h going at = few (fits-exit_step word.Terminate refl x (plain_exit kind.Terminate reason) p h at)
-fits-step script S t row (instr.Panic x category reason) p h going at = few (fits-exit_step word.Panic refl x (record { kind = kind.Panic; category = category; reason = reason }) p h at)
+fits-step script S t row (instr.Panic x category reason) p h going at =
+    few (fits-exit_step word.Panic refl x (record { kind = kind.Panic; category = category; reason = reason }) p h at)
 fits-step script S t row (instr.ExitType x) p h going at = few (fits-exittype x p h at)
 fits-step script S t row (instr.Logon x s) p h going at = few (fits-logon x s p h going at)
 fits-step script S t row (instr.Exit reason) p h going at = few (fits-exit reason h going)
@@ -80,7 +83,9 @@ fits-step script S t row (instr.Read y arg offset size from) p h going at = few 
 fits-step script S t row (instr.Write y arg offset size from) p h going at = few (fits-write y arg offset size from p h at)
 
 -- and so do their returns
-pub fits-returning : (script : Script) (S : State) (t : ObjNo) (row : ThreadRow) (instr : Instr) → AreRows script S → thread_of S t ≡ Some row → is_returning row.part ≡ true → FitsDecision looking script t S (return_of S t row instr)
+pub fits-returning : (script : Script) (S : State) (t : ObjNo) (row : ThreadRow) (instr : Instr) → AreRows script S
+    → thread_of S t ≡ Some row → is_returning row.part ≡ true
+    → FitsDecision looking script t S (return_of S t row instr)
 fits-returning script S t row (instr.Open kind name x) rows is returns = fits-return script S t row word.Open part.Do refl refl rows is returns refl tt
 fits-returning script S t row (instr.Connect name slots x) rows is returns = fits-return script S t row word.Connect part.Make refl refl rows is returns refl tt
 fits-returning script S t row _ rows is returns = fits-nothing script S t

@@ -78,7 +78,8 @@ findable_is S (Some x) o e = seen_step (is_dead_row (object_of S x) || nat_lt 0 
 -- what is found by name was made
 pub found_inside : (S : State) (kind : Kind) (name : List ℕ) (o : ObjNo) → find_object S kind name ≡ Some o → o.0 < length S.references.objects
 found_inside S kind name o e =
-    number_inside S.references.objects (position (has_name kind name) S.references.objects) o (λ n at. (position-Some (has_name kind name) S.references.objects n None at).0)
+    number_inside S.references.objects (position (has_name kind name) S.references.objects) o
+    (λ n at. (position-Some (has_name kind name) S.references.objects n None at).0)
     (findable_is S (named kind name S.references.objects) o (guard_step (is_session kind) (findable S (named kind name S.references.objects)) o e))
 
 -- and what is alive among that has a reference
@@ -86,8 +87,12 @@ not_alive : (row : Option ObjectRow) → is_dead_row row ≡ true → IsAlive ro
 not_alive None dead alive = alive
 not_alive (Some row) dead alive = absurd (cc)
 
-counted_step : (S : State) (dead counted : Bool) (x o : ObjNo) → is_dead_row (object_of S x) ≡ dead → nat_lt 0 (count_of S x) ≡ counted → (if dead || counted then Some x else None) ≡ Some o → IsAlive (object_of S o) → 0 < count_of S o
-counted_step S true counted x o d c e alive = let same : x ≡ o = cc in absurd (not_alive (object_of S o) (ap (λ (y : ObjNo). is_dead_row (object_of S y)) (sym same) ∙ d) alive)
+counted_step : (S : State) (dead counted : Bool) (x o : ObjNo) → is_dead_row (object_of S x) ≡ dead
+    → nat_lt 0 (count_of S x) ≡ counted → (if dead || counted then Some x else None) ≡ Some o → IsAlive (object_of S o)
+    → 0 < count_of S o
+counted_step S true counted x o d c e alive =
+    let same : x ≡ o = cc in
+    absurd (not_alive (object_of S o) (ap (λ (y : ObjNo). is_dead_row (object_of S y)) (sym same) ∙ d) alive)
 counted_step S false true x o d c e alive = let same : x ≡ o = cc in subst (λ (y : ObjNo). 0 < count_of S y) same (ltb-true 0 (count_of S x) c)
 counted_step S false false x o d c e alive = absurd (cc)
 
@@ -96,4 +101,6 @@ findable_counted S None o e alive = absurd (cc)
 findable_counted S (Some x) o e alive = counted_step S (is_dead_row (object_of S x)) (nat_lt 0 (count_of S x)) x o refl refl e alive
 
 pub found_counted : (S : State) (kind : Kind) (name : List ℕ) (o : ObjNo) → find_object S kind name ≡ Some o → IsAlive (object_of S o) → 0 < count_of S o
-found_counted S kind name o e = findable_counted S (named kind name S.references.objects) o (guard_step (is_session kind) (findable S (named kind name S.references.objects)) o e)
+found_counted S kind name o e =
+    findable_counted S (named kind name S.references.objects) o
+    (guard_step (is_session kind) (findable S (named kind name S.references.objects)) o e)

@@ -21,11 +21,14 @@ use Rattle.machine_laws.proofs.Fitting.Regular.{looking}
 use Rattle.machine_laws.proofs.Fitting.Tame.{tame-moves}
 
 -- `fill`
-pub fits-fill : {script : Script} {S : State} {t : ObjNo} {row : ThreadRow} {instr : Instr} (at length byte : ℕ) → IsStepping script S t row instr → FitsDecision looking script t S (fill_do t row at length byte)
+pub fits-fill : {script : Script} {S : State} {t : ObjNo} {row : ThreadRow} {instr : Instr} (at length byte : ℕ)
+    → IsStepping script S t row instr → FitsDecision looking script t S (fill_do t row at length byte)
 fits-fill {script = script} {S = S} {t = t} {row = row} at length byte h =
     if_cases (FitsDecision looking script t S) (nat_lt 1024 (at + length)) _ _ (λ _. fits-refuse (Of word.Fill part.Do) refl Argument h)
-    (λ within. fits-answers (Of word.Fill part.Do) refl (Fill row.process at length byte ∷ []) (pos 0) (tame-moves _ refl refl) (ltb-false 1024 (at + length) within, tt) (ends_in h refl) (omega arith) (omega arith))
+    (λ within. fits-answers (Of word.Fill part.Do) refl (Fill row.process at length byte ∷ []) (pos 0)
+    (tame-moves _ refl refl) (ltb-false 1024 (at + length) within, tt) (ends_in h refl) (omega arith) (omega arith))
 
 -- `peek`
-pub fits-peek : {script : Script} {S : State} {t : ObjNo} {row : ThreadRow} {instr : Instr} (at : ℕ) → IsStepping script S t row instr → FitsDecision looking script t S (peek_do S t row at)
+pub fits-peek : {script : Script} {S : State} {t : ObjNo} {row : ThreadRow} {instr : Instr} (at : ℕ)
+    → IsStepping script S t row instr → FitsDecision looking script t S (peek_do S t row at)
 fits-peek {S = S} {row = row} at h = fits-answer (Of word.Peek part.Do) refl (pos (byte_of S.services.memories row.process at)) h

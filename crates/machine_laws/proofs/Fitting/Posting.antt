@@ -69,7 +69,9 @@ receives : (o : ObjNo) (what : Waiting) → is_receiving o what ≡ true → (x 
 receives o (waiting.Receive x) e = (x, refl)
 receives o _ e = absurd (cc)
 
-pub of_wake : (S : State) (o : ObjNo) (owner : Option ObjNo) (P : List Move → Type 0) → P [] → ((u : ObjNo) (row : ThreadRow) → thread_of S u ≡ Some row → is_receiving o row.waiting ≡ true → P (Wake u ∷ [])) → P (wake_receiver S o owner)
+pub of_wake : (S : State) (o : ObjNo) (owner : Option ObjNo) (P : List Move → Type 0) → P []
+    → ((u : ObjNo) (row : ThreadRow) → thread_of S u ≡ Some row → is_receiving o row.waiting ≡ true → P (Wake u ∷ []))
+    → P (wake_receiver S o owner)
 of_wake S o None P none wakes = none
 of_wake S o (Some u) P none wakes = there (thread_of S u) refl
   where
@@ -115,7 +117,9 @@ not_called t u _ apart = refl
 abbrev pub posted : State → State → ObjNo → ObjNo → ObjNo → ℤ → List Arg → Way → State
 posted S T t s o function args way = moved t (Messages (Accept (slots_of S s) (new_row s o t function args way))) T
 
-pub accepted_fits : (script : Script) (S T : State) (t s o : ObjNo) (function : ℤ) (args : List Arg) (way : Way) → length args ≡ 4 → MayPost script S T t s o way → FitsMove script t (Messages (Accept (slots_of S s) (new_row s o t function args way))) T
+pub accepted_fits : (script : Script) (S T : State) (t s o : ObjNo) (function : ℤ) (args : List Arg) (way : Way)
+    → length args ≡ 4 → MayPost script S T t s o way
+    → FitsMove script t (Messages (Accept (slots_of S s) (new_row s o t function args way))) T
 accepted_fits script S T t s o function args way four h = (
   record {
     session = h.counted;
@@ -133,14 +137,18 @@ accepted_fits script S T t s o function args way four h = (
 )
 
 -- and a waiting owner of its server may be woken then
-pub woken_fits : (script : Script) (S T : State) (t s o : ObjNo) (function : ℤ) (args : List Arg) (way : Way) (u : ObjNo) (row : ThreadRow) → MayPost script S T t s o way → thread_of S u ≡ Some row → is_receiving o row.waiting ≡ true → FitsMove script t (Wake u) (posted S T t s o function args way)
+pub woken_fits : (script : Script) (S T : State) (t s o : ObjNo) (function : ℤ) (args : List Arg) (way : Way)
+    (u : ObjNo) (row : ThreadRow)
+    → MayPost script S T t s o way → thread_of S u ≡ Some row → is_receiving o row.waiting ≡ true
+    → FitsMove script t (Wake u) (posted S T t s o function args way)
 woken_fits script S T t s o function args way u row h is receiving = (nowhere, calls)
   where
     waits_for : (x : ObjNo) × (row.waiting ≡ waiting.Receive x)
     waits_for = receives o row.waiting receiving
 
     nowhere : WaitsNowhere (posted S T t s o function args way) u
-    nowhere x = ap (λ (r : LockRows). is_among u (waiters_at r x)) h.locks ∙ waits_nowhere script S u row h.rows is (λ y e. let other = waits_for.1 in absurd (cc)) x
+    nowhere x = ap (λ (r : LockRows). is_among u (waiters_at r x)) h.locks
+        ∙ waits_nowhere script S u row h.rows is (λ y e. let other = waits_for.1 in absurd (cc)) x
 
     apart : t.0 ≡ u.0 → ⊥
     apart at =
@@ -153,7 +161,8 @@ woken_fits script S T t s o function args way u row h is receiving = (nowhere, c
     calls : IsUncalled (posted S T t s o function args way) u
     calls = λ r at live.
         let none = is_uncalled script S u row h.rows is (λ e. let other = waits_for.1 in absurd (cc)) r (sym (h.others u apart) ∙ at) live in
-        let was : times_called T.serving.messages.outstanding u ≡ times_called S.serving.messages.outstanding u = ap (λ (m : MessageRows). times_called m.outstanding u) h.messages in
+        let was : times_called T.serving.messages.outstanding u ≡ times_called S.serving.messages.outstanding u =
+        ap (λ (m : MessageRows). times_called m.outstanding u) h.messages in
         let new = not_called t u way apart in
         let more = total-append (call_names u) T.serving.messages.outstanding (message ∷ []) in omega arith
       where
@@ -161,13 +170,28 @@ woken_fits script S T t s o function args way u row h is receiving = (nowhere, c
         message = record { number = next_number T.serving.messages; slots = slots_of S s; row = new_row s o t function args way }
 
 -- sent with a wake where the owner waits
-pub posts : (script : Script) (S T : State) (t s o : ObjNo) (function : ℤ) (args : List Arg) (way : Way) → length args ≡ 4 → MayPost script S T t s o way → OwesNothing serving script t T (post S t s o function args way) 3
+pub posts : (script : Script) (S T : State) (t s o : ObjNo) (function : ℤ) (args : List Arg) (way : Way)
+    → length args ≡ 4 → MayPost script S T t s o way → OwesNothing serving script t T (post S t s o function args way) 3
 posts script S T t s o function args way four h =
     let accepts = accepted_fits script S T t s o function args way four h in
-    of_wake S o (owner_of S.serving.servers o) (λ (wakes : List Move). OwesNothing serving script t T (Messages (Accept (slots_of S s) (new_row s o t function args way)) ∷ wakes) 3)
+    of_wake S o (owner_of S.serving.servers o)
+    (λ (wakes : List Move). OwesNothing serving script t T
+    (Messages (Accept (slots_of S s) (new_row s o t function args way)) ∷ wakes) 3)
     (record { each = (accepts, tt); told = omega arith; light = refl; calm = tame-at serving _ refl refl })
-    (λ u row is receiving. record { each = (accepts, (woken_fits script S T t s o function args way u row h is receiving, tt)); told = omega arith; light = refl; calm = tame-at serving _ refl refl })
+    (λ u row is receiving. record {
+      each = (
+        accepts,
+        (woken_fits script S T t s o function args way u row h is receiving, tt),
+      );
+      told = omega arith;
+      light = refl;
+      calm = tame-at serving _ refl refl;
+    })
 
 -- and the thread is at its instruction still
 pub stay-post : (script : Script) (S : State) (t s o : ObjNo) (function : ℤ) (args : List Arg) (way : Way) → AllStay script t (post S t s o function args way)
-stay-post script S t s o function args way = (stays-messages script t _, of_wake S o (owner_of S.serving.servers o) (AllStay script t) tt (λ u row is receiving. (stays-wake script t u, tt)))
+stay-post script S t s o function args way = (
+  stays-messages script t _,
+  of_wake S o (owner_of S.serving.servers o) (AllStay script t) tt
+      (λ u row is receiving. (stays-wake script t u, tt)),
+)

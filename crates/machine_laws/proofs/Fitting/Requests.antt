@@ -46,21 +46,34 @@ use Rattle.machine_laws.proofs.Fitting.Regular.{looking, plain}
 use Rattle.machine_laws.proofs.Fitting.Tame.{may_tell, tame-moves}
 
 -- `queue`
-pub fits-queue : {script : Script} {S : State} {t : ObjNo} {row : ThreadRow} {instr : Instr} (name : List ℕ) → IsStepping script S t row instr → FitsDecision looking script t S (queue_do script S t name)
+pub fits-queue : {script : Script} {S : State} {t : ObjNo} {row : ThreadRow} {instr : Instr} (name : List ℕ)
+    → IsStepping script S t row instr → FitsDecision looking script t S (queue_do script S t name)
 fits-queue {script = script} {S = S} {t = t} {row = row} name h = named (dfc_named script name) refl
   where
     named : (found : Option ℕ) → dfc_named script name ≡ found → FitsDecision looking script t S (queue_named S t found)
     named None e = fits-nothing script S t
     named (Some dfc) e =
-        if_cases (FitsDecision looking script t S) (is_queued S.synchronization.deferred (MoveOf dfc)) _ _ (λ _. fits-answer (step.Of word.Queue part.Do) refl (pos 0) h)
-        (λ _. fits-move (step.Of word.Queue part.Do) refl (add_call S dfc) (pos 1) h (record { told = omega arith; light = refl; calm = tame-moves _ refl refl }) (dfc_inside script S.synchronization.deferred name dfc h.rows.synchronization.deferred e, refl) (ends_in h refl))
+        if_cases (FitsDecision looking script t S) (is_queued S.synchronization.deferred (MoveOf dfc)) _ _
+        (λ _. fits-answer (step.Of word.Queue part.Do) refl (pos 0) h)
+        (λ _. fits-move (step.Of word.Queue part.Do) refl (add_call S dfc) (pos 1) h
+        (record { told = omega arith; light = refl; calm = tame-moves _ refl refl })
+        (dfc_inside script S.synchronization.deferred name dfc h.rows.synchronization.deferred e, refl)
+        (ends_in h refl))
 
 -- an answer after a change of the rows of requests
-fits-changed : {script : Script} {S : State} {t : ObjNo} {row : ThreadRow} {instr : Instr} (told : Step) (named : may_tell plain told ≡ true) (m : RequestMove) (code : ℤ) → IsStepping script S t row instr → FitsRequests m S.synchronization.requests S.synchronization.logons → IsOfLive m S → FitsDecision looking script t S (answer t told (move.Requests m ∷ []) code)
-fits-changed {row = row} told named m code h fits live = fits-move told named (move.Requests m) code h (record { told = let few = request-tells m in omega arith; light = refl; calm = tame-moves _ refl refl }) (fits, live) (ends_in h refl)
+fits-changed : {script : Script} {S : State} {t : ObjNo} {row : ThreadRow} {instr : Instr} (told : Step)
+    (named : may_tell plain told ≡ true) (m : RequestMove) (code : ℤ)
+    → IsStepping script S t row instr → FitsRequests m S.synchronization.requests S.synchronization.logons
+    → IsOfLive m S → FitsDecision looking script t S (answer t told (move.Requests m ∷ []) code)
+fits-changed {row = row} told named m code h fits live =
+    fits-move told named (move.Requests m) code h
+    (record { told = let few = request-tells m in omega arith; light = refl; calm = tame-moves _ refl refl })
+    (fits, live) (ends_in h refl)
 
 -- `request`
-pub fits-request : {script : Script} {S : State} {t : ObjNo} {row : ThreadRow} (d s : ℕ) → IsStepping script S t row (instr.Request d s) → is_returning row.part ≡ false → FitsDecision looking script t S (request_do S t d s)
+pub fits-request : {script : Script} {S : State} {t : ObjNo} {row : ThreadRow} (d s : ℕ)
+    → IsStepping script S t row (instr.Request d s) → is_returning row.part ≡ false
+    → FitsDecision looking script t S (request_do S t d s)
 fits-request {script = script} {S = S} {t = t} d s h going =
     let small = request_small d s h.ranges in
     let devices = h.rows.synchronization.requests.devices in
@@ -70,7 +83,10 @@ fits-request {script = script} {S = S} {t = t} d s h going =
       device = omega arith;
       thread = has_signals h;
       status = omega arith;
-      free = none_of (request_at S.synchronization.requests d) (or_false_right (is_pending S.synchronization.requests t s) (is_some (request_at S.synchronization.requests d)) e);
+      free =
+          none_of (request_at S.synchronization.requests d)
+          (or_false_right (is_pending S.synchronization.requests t s)
+          (is_some (request_at S.synchronization.requests d)) e);
       done = or_false_left (is_pending S.synchronization.requests t s) (is_some (request_at S.synchronization.requests d)) e;
     }) (live_thread h))
 
@@ -84,31 +100,59 @@ status_is t (Some request) s e = by (request.thread.0 == t.0) refl e
 
     by : (b : Bool) → (request.thread.0 == t.0) ≡ b → (if b then Some request.status else None) ≡ Some s → Some request ≡ made t s
     by false own e = absurd (cc)
-    by true own e = let same : request.status ≡ s = cc in ap (λ (u : ObjNo). made u request.status) (same_object request.thread t (eqb-true request.thread.0 t.0 own)) ∙ ap (made t) same
+    by true own e = let same : request.status ≡ s = cc in
+        ap (λ (u : ObjNo). made u request.status) (same_object request.thread t (eqb-true request.thread.0 t.0 own))
+        ∙ ap (made t) same
 
-pub fits-cancel : {script : Script} {S : State} {t : ObjNo} {row : ThreadRow} {instr : Instr} (d : ℕ) → IsStepping script S t row instr → FitsDecision looking script t S (cancel_do S t d)
+pub fits-cancel : {script : Script} {S : State} {t : ObjNo} {row : ThreadRow} {instr : Instr} (d : ℕ)
+    → IsStepping script S t row instr → FitsDecision looking script t S (cancel_do S t d)
 fits-cancel {script = script} {S = S} {t = t} d h = found (status_of t (request_at S.synchronization.requests d)) refl
   where
     found : (status : Option ℕ) → status_of t (request_at S.synchronization.requests d) ≡ status → FitsDecision looking script t S (cancel_status t d status)
     found None e = fits-refuse (step.Of word.Cancel part.Do) refl error.NotFound h
-    found (Some s) e = let is = status_is t (request_at S.synchronization.requests d) s e in fits-changed (step.Of word.Cancel part.Do) refl (Complete d t s (error_code error.Cancel)) (pos 0) h (inside S.synchronization.requests.devices d _ is, is) tt
+    found (Some s) e = let is = status_is t (request_at S.synchronization.requests d) s e in
+        fits-changed (step.Of word.Cancel part.Do) refl (Complete d t s (error_code error.Cancel)) (pos 0) h
+        (inside S.synchronization.requests.devices d _ is, is) tt
 
 -- a wait, or a signal is taken
-fits-waits : {script : Script} {S : State} {t : ObjNo} {row : ThreadRow} {instr : Instr} (told : Step) (named : may_tell plain told ≡ true) (waits : Bool) (what : Waiting) (code : ℤ) → IsStepping script S t row instr → is_returning row.part ≡ false → FitsDecision looking script t S (unless_holding S t told (if waits then wait_for t told what else answer t told (move.Requests (TakeSignal t) ∷ []) code))
+fits-waits : {script : Script} {S : State} {t : ObjNo} {row : ThreadRow} {instr : Instr} (told : Step)
+    (named : may_tell plain told ≡ true) (waits : Bool) (what : Waiting) (code : ℤ)
+    → IsStepping script S t row instr → is_returning row.part ≡ false
+    → FitsDecision looking script t S (unless_holding S t told
+    (if waits then wait_for t told what else answer t told (move.Requests (TakeSignal t) ∷ []) code))
 fits-waits {script = script} {S = S} {t = t} told named waits what code h going =
     fits-unless told named _ h (λ none. if_cases (FitsDecision looking script t S) waits _ _
-    (λ _. fits-later told named (move.Wait t what) refl h (record { told = omega arith; light = refl; calm = tame-moves _ refl refl }) (none, stepping_nowhere h, live-changed S (moved t (move.GoOn t part.Done) S) t (with_part part.Done) (λ r. refl) refl (stepping_live h), λ r at live. stepping_uncalled h going))
+    (λ _. fits-later told named (move.Wait t what) refl h
+    (record { told = omega arith; light = refl; calm = tame-moves _ refl refl }) (
+      none,
+      stepping_nowhere h,
+      live-changed S (moved t (move.GoOn t part.Done) S) t (with_part part.Done)
+          (λ r. refl) refl (stepping_live h),
+      λ r at live. stepping_uncalled h going,
+    ))
     (λ _. fits-changed told named (TakeSignal t) code h (has_signals h) tt))
 
 -- `waitany` and `waitfor`
-pub fits-waitany : {script : Script} {S : State} {t : ObjNo} {row : ThreadRow} {instr : Instr} (p : Option Part) → IsStepping script S t row instr → is_returning row.part ≡ false → FitsDecision looking script t S (waitany_step S t p)
-fits-waitany {S = S} {t = t} None h going = fits-waits (step.Of word.Waitany part.Do) refl (signal_count S.synchronization.requests t == 0) waiting.Any (pos 0) h going
+pub fits-waitany : {script : Script} {S : State} {t : ObjNo} {row : ThreadRow} {instr : Instr} (p : Option Part)
+    → IsStepping script S t row instr → is_returning row.part ≡ false
+    → FitsDecision looking script t S (waitany_step S t p)
+fits-waitany {S = S} {t = t} None h going =
+    fits-waits (step.Of word.Waitany part.Do) refl (signal_count S.synchronization.requests t == 0) waiting.Any
+    (pos 0) h going
 fits-waitany {t = t} (Some p) h going = fits-changed (step.Of word.Waitany part.Done) refl (TakeSignal t) (pos 0) h (has_signals h) tt
 
-pub fits-waitfor : {script : Script} {S : State} {t : ObjNo} {row : ThreadRow} {instr : Instr} (s : ℕ) (p : Option Part) → IsStepping script S t row instr → is_returning row.part ≡ false → FitsDecision looking script t S (waitfor_step S t s p)
-fits-waitfor {S = S} {t = t} s None h going = fits-waits (step.Of word.Waitfor part.Do) refl (is_pending S.synchronization.requests t s || signal_count S.synchronization.requests t == 0) (waiting.Status s) (value_of S.synchronization.requests t s) h going
-fits-waitfor {S = S} {t = t} s (Some p) h going = fits-changed (step.Of word.Waitfor part.Done) refl (TakeSignal t) (value_of S.synchronization.requests t s) h (has_signals h) tt
+pub fits-waitfor : {script : Script} {S : State} {t : ObjNo} {row : ThreadRow} {instr : Instr} (s : ℕ) (p : Option Part)
+    → IsStepping script S t row instr → is_returning row.part ≡ false
+    → FitsDecision looking script t S (waitfor_step S t s p)
+fits-waitfor {S = S} {t = t} s None h going =
+    fits-waits (step.Of word.Waitfor part.Do) refl
+    (is_pending S.synchronization.requests t s || signal_count S.synchronization.requests t == 0) (waiting.Status s)
+    (value_of S.synchronization.requests t s) h going
+fits-waitfor {S = S} {t = t} s (Some p) h going =
+    fits-changed (step.Of word.Waitfor part.Done) refl (TakeSignal t) (value_of S.synchronization.requests t s) h
+    (has_signals h) tt
 
 -- `status`
-pub fits-status : {script : Script} {S : State} {t : ObjNo} {row : ThreadRow} {instr : Instr} (s : ℕ) → IsStepping script S t row instr → FitsDecision looking script t S (status_do S t s)
+pub fits-status : {script : Script} {S : State} {t : ObjNo} {row : ThreadRow} {instr : Instr} (s : ℕ)
+    → IsStepping script S t row instr → FitsDecision looking script t S (status_do S t s)
 fits-status {S = S} {t = t} s h = fits-answer (step.Of word.Status part.Do) refl (value_of S.synchronization.requests t s) h

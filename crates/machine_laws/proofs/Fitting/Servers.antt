@@ -53,50 +53,89 @@ use Rattle.machine_laws.proofs.Fitting.Regular.{looking, plain, serving, calling
 use Rattle.machine_laws.proofs.Fitting.Tame.{may_tell, tame-at, tame-moves}
 
 -- a thread that makes a step may come to owe something, unless it comes back from a find
-pub owes_more : {script : Script} {S : State} {t : ObjNo} {row : ThreadRow} {instr : Instr} → IsStepping script S t row instr → is_returning row.part ≡ false → MayOweMore S t
+pub owes_more : {script : Script} {S : State} {t : ObjNo} {row : ThreadRow} {instr : Instr}
+    → IsStepping script S t row instr → is_returning row.part ≡ false → MayOweMore S t
 owes_more h going = record { thread = ap is_some h.is; going = ap (λ (r : Option ThreadRow). is_returning (part_of r)) h.is ∙ going }
 
 -- `server`
-pub fits-server : {script : Script} {S : State} {t : ObjNo} {row : ThreadRow} (name : List ℕ) (x : ℕ) → IsStepping script S t row (instr.Server name x) → is_returning row.part ≡ false → FitsDecision calling script t S (server_do S t name x)
+pub fits-server : {script : Script} {S : State} {t : ObjNo} {row : ThreadRow} (name : List ℕ) (x : ℕ)
+    → IsStepping script S t row (instr.Server name x) → is_returning row.part ≡ false
+    → FitsDecision calling script t S (server_do S t name x)
 fits-server {script = script} {S = S} {t = t} {row = row} name x h going =
-    if_cases (FitsDecision calling script t S) (is_taken kind.Server name S.references.objects) _ _ (λ _. fits-refuse (Of word.Server part.Do) refl error.AlreadyExists h)
+    if_cases (FitsDecision calling script t S) (is_taken kind.Server name S.references.objects) _ _
+    (λ _. fits-refuse (Of word.Server part.Do) refl error.AlreadyExists h)
     (λ new. if_cases (FitsDecision calling script t S) (no_number_left S) _ _ (λ _. fits-refuse (Of word.Server part.Do) refl error.Overflow h)
-    (λ room. of_thread_handle (λ handle. FitsDecision calling script t S (make_server t (next_object S) name x handle)) h (fits-refuse (Of word.Server part.Do) refl error.Overflow h) (made new (room_left h room))))
+    (λ room. of_thread_handle (λ handle. FitsDecision calling script t S (make_server t (next_object S) name x handle))
+    h (fits-refuse (Of word.Server part.Do) refl error.Overflow h) (made new (room_left h room))))
   where
-    made : is_taken kind.Server name S.references.objects ≡ false → (next_object S).0 < OBJECTS → (i number : ℕ) → IsFree S (InThread t i) → FitsDecision calling script t S (make_server t (next_object S) name x (Some (record { holder = InThread t i; number = number })))
+    made : is_taken kind.Server name S.references.objects ≡ false → (next_object S).0 < OBJECTS → (i number : ℕ)
+        → IsFree S (InThread t i) → FitsDecision calling script t S
+        (make_server t (next_object S) name x (Some (record { holder = InThread t i; number = number })))
     made new room i number free =
         let o = next_object S in
         let started = moved t (move.Servers (Start o t)) S in
         let sized = h.rows.serving.servers.servers_sized in
-        let inside_owned : t.0 < length S.serving.owned = let a = inside S.references.threads t.0 row h.is in let b = h.rows.serving.servers.owned_sized in omega arith in
-        let counted : 0 < count_of (moved t (move.Make kind.Server name (Own t)) started) o = let a = count-holding S.serving.owned t o o inside_owned in let b = same_self o in omega arith in
-        fits-handle (Of word.Server part.Do) refl (move.Servers (Start o t) ∷ move.Make kind.Server name (Own t) ∷ move.Gain (InThread t i) o ∷ []) x number (tame-at calling _ refl refl) h h.registers (
+        let inside_owned : t.0 < length S.serving.owned = let a = inside S.references.threads t.0 row h.is in
+        let b = h.rows.serving.servers.owned_sized in
+        omega arith in
+        let counted : 0 < count_of (moved t (move.Make kind.Server name (Own t)) started) o =
+        let a = count-holding S.serving.owned t o o inside_owned in
+        let b = same_self o in
+        omega arith in
+        fits-handle (Of word.Server part.Do) refl
+        (move.Servers (Start o t) ∷ move.Make kind.Server name (Own t) ∷ move.Gain (InThread t i) o ∷ []) x number
+        (tame-at calling _ refl refl) h h.registers (
           record { next = refl; room = room; owner = live_thread h },
           (
-            (record { room = room; new = new }, record { owner = live_thread h; server = get_or-set_same S.serving.servers.servers o.0 _ None (omega arith) }, λ e. absurd (cc), tt),
+            (
+              record { room = room; new = new },
+              record
+                  { owner = live_thread h; server = get_or-set_same S.serving.servers.servers o.0 _ None (omega arith) },
+              λ e. absurd (cc),
+              tt,
+            ),
             (((free.0, record { inside = free.1.inside; least = free.1.least }, free.2), counted, refl), tt),
           ),
         ) refl (omega arith) (omega arith)
 
 -- a message is taken
-fits-take : {script : Script} {S : State} {t : ObjNo} {row : ThreadRow} {instr : Instr} (told : Step) (named : may_tell plain told ≡ true) (o : ObjNo) (y : ℕ) (m : MsgNo) → IsStepping script S t row instr → is_returning row.part ≡ false → y < 8 → IsAlive (object_of S o) → FitsDecision looking script t S (take_message t told o y m)
+fits-take : {script : Script} {S : State} {t : ObjNo} {row : ThreadRow} {instr : Instr} (told : Step)
+    (named : may_tell plain told ≡ true) (o : ObjNo) (y : ℕ) (m : MsgNo)
+    → IsStepping script S t row instr → is_returning row.part ≡ false → y < 8 → IsAlive (object_of S o)
+    → FitsDecision looking script t S (take_message t told o y m)
 fits-take {script = script} {S = S} {t = t} {row = row} told named o y m h going register alive =
     let made = alive_inside S.references.objects o.0 alive in
     let few = h.rows.references.sized.objects_few in
-    fits-answers told named (move.Messages (Take o) ∷ move.WriteMessage t y m.0 ∷ []) (pos m.0) (tame-moves _ refl refl) ((omega arith, owes_more h going, tt), (register, tt))
-    (at-with_row script S (moved t (move.WriteMessage t y m.0) (moved t (move.Messages (Take o)) S)) t t (with_message y m.0) (record { role = λ r. refl; next = λ r. refl; going = λ r e. e }) refl (ends_here h)) (omega arith) (omega arith)
+    fits-answers told named (move.Messages (Take o) ∷ move.WriteMessage t y m.0 ∷ []) (pos m.0) (tame-moves _ refl refl)
+    ((omega arith, owes_more h going, tt), (register, tt))
+    (at-with_row script S (moved t (move.WriteMessage t y m.0) (moved t (move.Messages (Take o)) S)) t t
+    (with_message y m.0) (record { role = λ r. refl; next = λ r. refl; going = λ r e. e }) refl (ends_here h))
+    (omega arith) (omega arith)
 
 -- `receive`
-fits-receive_do : {script : Script} {S : State} {t : ObjNo} {row : ThreadRow} {instr : Instr} (y : ℕ) (uses : Option ObjNo) → IsStepping script S t row instr → is_returning row.part ≡ false → y < 8 → row.uses ≡ uses → FitsDecision looking script t S (receive_do S t y uses)
+fits-receive_do : {script : Script} {S : State} {t : ObjNo} {row : ThreadRow} {instr : Instr} (y : ℕ)
+    (uses : Option ObjNo)
+    → IsStepping script S t row instr → is_returning row.part ≡ false → y < 8 → row.uses ≡ uses
+    → FitsDecision looking script t S (receive_do S t y uses)
 fits-receive_do {script = script} {S = S} {t = t} y None h going register e = fits-nothing script S t
-fits-receive_do {script = script} {S = S} {t = t} {row = row} y (Some o) h going register e = fits-unless (Of word.Receive part.Do) refl _ h (λ none. by none (next_of S.serving.messages o))
+fits-receive_do {script = script} {S = S} {t = t} {row = row} y (Some o) h going register e =
+    fits-unless (Of word.Receive part.Do) refl _ h (λ none. by none (next_of S.serving.messages o))
   where
     by : held_by S.synchronization.nano t ≡ None → (next : Option MsgNo) → FitsDecision looking script t S (receive_next t o y next)
-    by none None = fits-later (Of word.Receive part.Do) refl (move.Wait t (waiting.Receive o)) refl h (record { told = omega arith; light = refl; calm = tame-moves _ refl refl })
-        (none, stepping_nowhere h, live-changed S (moved t (move.GoOn t part.Done) S) t (with_part part.Done) (λ r. refl) refl (stepping_live h), λ r at live. stepping_uncalled h going)
+    by none None = fits-later (Of word.Receive part.Do) refl (move.Wait t (waiting.Receive o)) refl h
+        (record { told = omega arith; light = refl; calm = tame-moves _ refl refl }) (
+          none,
+          stepping_nowhere h,
+          live-changed S (moved t (move.GoOn t part.Done) S) t (with_part part.Done)
+              (λ r. refl) refl (stepping_live h),
+          λ r at live. stepping_uncalled h going,
+        )
     by none (Some m) = fits-take (Of word.Receive part.Do) refl o y m h going register (use_is_alive S t row o h.rows.lives h.is e)
 
-fits-receive_done : {script : Script} {S : State} {t : ObjNo} {row : ThreadRow} {instr : Instr} (y : ℕ) (uses : Option ObjNo) → IsStepping script S t row instr → is_returning row.part ≡ false → y < 8 → row.uses ≡ uses → FitsDecision looking script t S (receive_done S t y uses)
+fits-receive_done : {script : Script} {S : State} {t : ObjNo} {row : ThreadRow} {instr : Instr} (y : ℕ)
+    (uses : Option ObjNo)
+    → IsStepping script S t row instr → is_returning row.part ≡ false → y < 8 → row.uses ≡ uses
+    → FitsDecision looking script t S (receive_done S t y uses)
 fits-receive_done {script = script} {S = S} {t = t} y None h going register e = fits-nothing script S t
 fits-receive_done {script = script} {S = S} {t = t} {row = row} y (Some o) h going register e = by (next_of S.serving.messages o)
   where
@@ -104,8 +143,12 @@ fits-receive_done {script = script} {S = S} {t = t} {row = row} y (Some o) h goi
     by None = fits-nothing script S t
     by (Some m) = fits-take (Of word.Receive part.Done) refl o y m h going register (use_is_alive S t row o h.rows.lives h.is e)
 
-pub fits-receive : {script : Script} {S : State} {t : ObjNo} {row : ThreadRow} (x y : ℕ) (p : Option Part) → IsStepping script S t row (instr.Receive x y) → is_returning row.part ≡ false → row.part ≡ p → FitsDecision looking script t S (receive_step S t row x y p)
-fits-receive x y None h going at = fits-unless (Of word.Receive part.Look) refl _ h (λ _. fits-look_kind kind.Server word.Receive x refl refl h (ap is_before_use at))
+pub fits-receive : {script : Script} {S : State} {t : ObjNo} {row : ThreadRow} (x y : ℕ) (p : Option Part)
+    → IsStepping script S t row (instr.Receive x y) → is_returning row.part ≡ false → row.part ≡ p
+    → FitsDecision looking script t S (receive_step S t row x y p)
+fits-receive x y None h going at =
+    fits-unless (Of word.Receive part.Look) refl _ h
+    (λ _. fits-look_kind kind.Server word.Receive x refl refl h (ap is_before_use at))
 fits-receive {row = row} x y (Some part.Do) h going at = fits-receive_do y row.uses h going h.registers.1 refl
 fits-receive {row = row} x y (Some _) h going at = fits-receive_done y row.uses h going h.registers.1 refl
 
@@ -119,17 +162,23 @@ taken_is S t (Some x) message e = by (x.row.taken && is_owner t (owner_of S.serv
     by false e = absurd (cc)
 
 -- `complete`
-pub fits-complete : {script : Script} {S : State} {t : ObjNo} {row : ThreadRow} {instr : Instr} (y : ℕ) (code : ℤ) → IsStepping script S t row instr → is_returning row.part ≡ false → FitsDecision serving script t S (complete_do S t row y code)
+pub fits-complete : {script : Script} {S : State} {t : ObjNo} {row : ThreadRow} {instr : Instr} (y : ℕ) (code : ℤ)
+    → IsStepping script S t row instr → is_returning row.part ≡ false
+    → FitsDecision serving script t S (complete_do S t row y code)
 fits-complete {script = script} {S = S} {t = t} {row = row} y code h going = by (message_at S t row y) refl
   where
     by : (found : Option Message) → message_at S t row y ≡ found → FitsDecision serving script t S (complete_message S t code found)
     by None e = fits-refuse (Of word.Complete part.Do) refl error.BadHandle h
     by (Some message) e =
-        let done = finishes script S t _ message code h.rows (owes_more h going) (taken_is S t (message_of S.serving.messages (record { 0 = slice_index row.messages y })) message e) in
-        fits-answers (Of word.Complete part.Do) refl (finish S message code) (pos 0) done.calm done.each (stay-perform script t (finish S message code) S (stay-finish script S t message code) (ends_here h)) (let few = done.told in omega arith) (let few = done.light in omega arith)
+        let done = finishes script S t _ message code h.rows (owes_more h going)
+        (taken_is S t (message_of S.serving.messages (record { 0 = slice_index row.messages y })) message e) in
+        fits-answers (Of word.Complete part.Do) refl (finish S message code) (pos 0) done.calm done.each
+        (stay-perform script t (finish S message code) S (stay-finish script S t message code) (ends_here h))
+        (let few = done.told in omega arith) (let few = done.light in omega arith)
 
 -- `function`
-pub fits-function : {script : Script} {S : State} {t : ObjNo} {row : ThreadRow} {instr : Instr} (y : ℕ) → IsStepping script S t row instr → FitsDecision looking script t S (function_do S t row y)
+pub fits-function : {script : Script} {S : State} {t : ObjNo} {row : ThreadRow} {instr : Instr} (y : ℕ)
+    → IsStepping script S t row instr → FitsDecision looking script t S (function_do S t row y)
 fits-function {script = script} {S = S} {t = t} {row = row} y h = by (message_at S t row y)
   where
     by : (found : Option Message) → FitsDecision looking script t S (function_of t found)

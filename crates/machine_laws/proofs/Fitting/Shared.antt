@@ -46,7 +46,10 @@ use Rattle.move_laws.proofs.Lists.Totals.{total_at_least, inside}
 use Rattle.std.proofs.lemmas.Bool.{eq-eqb}
 
 -- a look at a handle
-pub fits-look : {k : Kinds} {script : Script} {S : State} {t : ObjNo} {row : ThreadRow} {instr : Instr} (word : Word) (x : ℕ) → k.uses ≡ true → k.goes ≡ true → IsStepping script S t row instr → is_before_use row.part ≡ true → FitsDecision k script t S (look S t row word x)
+pub fits-look : {k : Kinds} {script : Script} {S : State} {t : ObjNo} {row : ThreadRow} {instr : Instr} (word : Word)
+    (x : ℕ)
+    → k.uses ≡ true → k.goes ≡ true → IsStepping script S t row instr → is_before_use row.part ≡ true
+    → FitsDecision k script t S (look S t row word x)
 fits-look {k = k} {script = script} {S = S} {t = t} {row = row} word x uses goes h before = found (object_at S t row (slice_index row.registers x)) refl
   where
     found : (named : Option ObjNo) → object_at S t row (slice_index row.registers x) ≡ named → FitsDecision k script t S (look_at t word named)
@@ -54,7 +57,11 @@ fits-look {k = k} {script = script} {S = S} {t = t} {row = row} word x uses goes
     found (Some o) e = fits-use (Of word Look) refl o Do uses goes h before refl tt (handle_is_counted S _ _ o (object_of_is _ _ _ o e))
 
 -- a find by name, by a thread that holds no fast mutex
-pub fits-seek : {k : Kinds} {script : Script} {S : State} {t : ObjNo} {row : ThreadRow} {instr : Instr} (word : Word) (kind : Kind) (name : List ℕ) → k.goes ≡ true → IsStepping script S t row instr → finds_by_name (Some instr) ≡ true → is_before_use row.part ≡ true → held_by S.synchronization.nano t ≡ None → FitsDecision k script t S (seek S t word kind name)
+pub fits-seek : {k : Kinds} {script : Script} {S : State} {t : ObjNo} {row : ThreadRow} {instr : Instr} (word : Word)
+    (kind : Kind) (name : List ℕ)
+    → k.goes ≡ true → IsStepping script S t row instr → finds_by_name (Some instr) ≡ true
+    → is_before_use row.part ≡ true → held_by S.synchronization.nano t ≡ None
+    → FitsDecision k script t S (seek S t word kind name)
 fits-seek {k = k} {script = script} {S = S} {t = t} {row = row} word kind name goes h by_name before none = found (find_object S kind name) refl
   where
     found : (named : Option ObjNo) → find_object S kind name ≡ named → FitsDecision k script t S (seek_object t word named)
@@ -80,7 +87,15 @@ fits-seek {k = k} {script = script} {S = S} {t = t} {row = row} word kind name g
       );
       told = omega arith;
       light = omega arith;
-      regular = regular-find t (Of word Seek) o refl goes (record { row = row; is = h.is; at = ap finds_by_name h.at ∙ by_name; counted = found_counted S kind name o e; moves = refl });
+      regular =
+          regular-find t (Of word Seek) o refl goes
+          (record {
+            row = row;
+            is = h.is;
+            at = ap finds_by_name h.at ∙ by_name;
+            counted = found_counted S kind name o e;
+            moves = refl;
+          });
     }
 
 -- a thread that comes back from a find of an object that isn't open misses it
@@ -89,7 +104,10 @@ missed_not None e alive = absurd alive
 missed_not (Some row) e alive = let opened : not row.dead ≡ true = ap not alive in cc
 
 -- and its return
-pub fits-return : {k : Kinds} (script : Script) (S : State) (t : ObjNo) (row : ThreadRow) (word : Word) (part : Part) → k.uses ≡ true → k.goes ≡ true → AreRows script S → thread_of S t ≡ Some row → is_returning row.part ≡ true → is_before_use (Some part) ≡ false → MaySend (Some part) S → FitsDecision k script t S (return_to S t row word part)
+pub fits-return : {k : Kinds} (script : Script) (S : State) (t : ObjNo) (row : ThreadRow) (word : Word) (part : Part)
+    → k.uses ≡ true → k.goes ≡ true → AreRows script S → thread_of S t ≡ Some row → is_returning row.part ≡ true
+    → is_before_use (Some part) ≡ false → MaySend (Some part) S
+    → FitsDecision k script t S (return_to S t row word part)
 fits-return {k = k} script S t row word part uses goes rows is returns later sends =
     if_cases (FitsDecision k script t S) (is_open (object_of S (found_object row))) _ _
     (λ e. record {
@@ -111,12 +129,27 @@ fits-return {k = k} script S t row word part uses goes rows is returns later sen
 
     missed : is_open (object_of S (found_object row)) ≡ false → (live : Bool) → FitsDecision k script t S (miss t word (found_object row) live)
     missed e true = record {
-      each = (((back, missed_not (object_of S (found_object row)) e), refl), ((refl, ap (λ (r : Option ThreadRow). is_returning (part_of r)) there, record { row = with_missed row; is = there; next = (rows.references.threads.rows t.0 row is).returns returns }), tt));
+      each = (
+        ((back, missed_not (object_of S (found_object row)) e), refl),
+        (
+          (
+            refl,
+            ap (λ (r : Option ThreadRow). is_returning (part_of r)) there,
+            record { row = with_missed row; is = there; next = (rows.references.threads.rows t.0 row is).returns returns },
+          ),
+          tt,
+        ),
+      );
       told = omega arith;
       light = omega arith;
       regular = regular-miss t word (found_object row) true goes returning;
     }
-    missed e false = record { each = (((back, missed_not (object_of S (found_object row)) e), refl), tt); told = omega arith; light = omega arith; regular = regular-miss t word (found_object row) false goes returning }
+    missed e false = record {
+      each = (((back, missed_not (object_of S (found_object row)) e), refl), tt);
+      told = omega arith;
+      light = omega arith;
+      regular = regular-miss t word (found_object row) false goes returning;
+    }
 
 -- a thread of its process isn't cleaned: itself
 not_cleaned : (stage : Stage) → is_spent stage ≡ false → stage_left stage ≡ 1
@@ -124,35 +157,58 @@ not_cleaned Live e = refl
 not_cleaned Doomed e = refl
 not_cleaned _ e = absurd (cc)
 
-some-left : {script : Script} {S : State} {t : ObjNo} {row : ThreadRow} {instr : Instr} → IsStepping script S t row instr → 0 < total (left_of row.process) S.references.threads
+some-left : {script : Script} {S : State} {t : ObjNo} {row : ThreadRow} {instr : Instr}
+    → IsStepping script S t row instr → 0 < total (left_of row.process) S.references.threads
 some-left {S = S} {t = t} {row = row} h =
     let here = total_at_least (left_of row.process) S.references.threads t.0 None (inside S.references.threads t.0 row h.is) in
-    let one : left_of row.process (Some row) ≡ 1 = ap (λ (b : Bool). if b then stage_left row.stage else 0) (eq-eqb row.process.0 row.process.0 refl) ∙ not_cleaned row.stage (unspent h row h.is) in
+    let one : left_of row.process (Some row)
+    ≡ 1 = ap (λ (b : Bool). if b then stage_left row.stage else 0) (eq-eqb row.process.0 row.process.0 refl)
+    ∙ not_cleaned row.stage (unspent h row h.is) in
     let own : left_of row.process (thread_of S t) ≡ 1 = ap (left_of row.process) h.is ∙ one in omega arith
 
 -- the handle that a table gives next stands in a free slot, of the process or of the thread
-pub of_process_handle : {script : Script} {S : State} {t : ObjNo} {row : ThreadRow} {instr : Instr} (P : Option NewHandle → Type 0) → IsStepping script S t row instr → P None
-    → ((i number : ℕ) → IsFree S (InProcess row.process i) → P (Some (record { holder = InProcess row.process i; number = number }))) → P (process_handle S row.process)
+pub of_process_handle : {script : Script} {S : State} {t : ObjNo} {row : ThreadRow} {instr : Instr}
+    (P : Option NewHandle → Type 0)
+    → IsStepping script S t row instr → P None
+    → ((i number : ℕ) → IsFree S (InProcess row.process i)
+    → P (Some (record { holder = InProcess row.process i; number = number }))) → P (process_handle S row.process)
 of_process_handle {S = S} {t = t} {row = row} P h none some =
     let table = table_of S row.process in
-    if_cases P (is_full table) _ _ (λ _. none) (λ room. some (free_index table) (new_handle false table) (h.rows.references.threads.processes t.0 row h.is, record { inside = free_index_inside table room; least = refl }, some-left h))
+    if_cases P (is_full table) _ _ (λ _. none)
+    (λ room. some (free_index table) (new_handle false table) (
+      h.rows.references.threads.processes t.0 row h.is,
+      record { inside = free_index_inside table room; least = refl },
+      some-left h,
+    ))
 
-pub of_thread_handle : {script : Script} {S : State} {t : ObjNo} {row : ThreadRow} {instr : Instr} (P : Option NewHandle → Type 0) → IsStepping script S t row instr → P None
+pub of_thread_handle : {script : Script} {S : State} {t : ObjNo} {row : ThreadRow} {instr : Instr}
+    (P : Option NewHandle → Type 0)
+    → IsStepping script S t row instr → P None
     → ((i number : ℕ) → IsFree S (InThread t i) → P (Some (record { holder = InThread t i; number = number }))) → P (thread_handle S t)
 of_thread_handle {S = S} {t = t} P h none some =
     let table = table_of S t in
-    if_cases P (is_full table) _ _ (λ _. none) (λ room. some (free_index table) (new_handle true table) (ap is_some h.is, record { inside = free_index_inside table room; least = refl }, unspent h))
+    if_cases P (is_full table) _ _ (λ _. none)
+    (λ room. some (free_index table) (new_handle true table)
+    (ap is_some h.is, record { inside = free_index_inside table room; least = refl }, unspent h))
 
 -- a handle of a living object
-pub fits-give : {k : Kinds} {script : Script} {S : State} {t : ObjNo} {row : ThreadRow} {instr : Instr} (told : Step) (named : may_tell k told ≡ true) (o : ObjNo) (x : ℕ) → k.goes ≡ true → IsStepping script S t row instr → x < 8 → 0 < count_of S o → FitsDecision k script t S (give_handle t told o x (process_handle S row.process))
+pub fits-give : {k : Kinds} {script : Script} {S : State} {t : ObjNo} {row : ThreadRow} {instr : Instr} (told : Step)
+    (named : may_tell k told ≡ true) (o : ObjNo) (x : ℕ)
+    → k.goes ≡ true → IsStepping script S t row instr → x < 8 → 0 < count_of S o
+    → FitsDecision k script t S (give_handle t told o x (process_handle S row.process))
 fits-give {k = k} {script = script} {S = S} {t = t} {row = row} told named o x goes h register counted =
     of_process_handle (λ handle. FitsDecision k script t S (give_handle t told o x handle)) h (fits-refuse told named Overflow h)
-    (λ i number free. fits-handle told named (Gain (InProcess row.process i) o ∷ []) x number (tame-going _ goes refl refl) h register ((free, counted, tt), tt) refl (omega arith) (omega arith))
+    (λ i number free. fits-handle told named (Gain (InProcess row.process i) o ∷ []) x number
+    (tame-going _ goes refl refl) h register ((free, counted, tt), tt) refl (omega arith) (omega arith))
 
-pub fits-give_own : {k : Kinds} {script : Script} {S : State} {t : ObjNo} {row : ThreadRow} {instr : Instr} (told : Step) (named : may_tell k told ≡ true) (o : ObjNo) (x : ℕ) → k.goes ≡ true → IsStepping script S t row instr → x < 8 → 0 < count_of S o → FitsDecision k script t S (give_handle t told o x (thread_handle S t))
+pub fits-give_own : {k : Kinds} {script : Script} {S : State} {t : ObjNo} {row : ThreadRow} {instr : Instr}
+    (told : Step) (named : may_tell k told ≡ true) (o : ObjNo) (x : ℕ)
+    → k.goes ≡ true → IsStepping script S t row instr → x < 8 → 0 < count_of S o
+    → FitsDecision k script t S (give_handle t told o x (thread_handle S t))
 fits-give_own {k = k} {script = script} {S = S} {t = t} told named o x goes h register counted =
     of_thread_handle (λ handle. FitsDecision k script t S (give_handle t told o x handle)) h (fits-refuse told named Overflow h)
-    (λ i number free. fits-handle told named (Gain (InThread t i) o ∷ []) x number (tame-going _ goes refl refl) h register ((free, counted, refl), tt) refl (omega arith) (omega arith))
+    (λ i number free. fits-handle told named (Gain (InThread t i) o ∷ []) x number
+    (tame-going _ goes refl refl) h register ((free, counted, refl), tt) refl (omega arith) (omega arith))
 
 -- a move that tells one effect at most, owes nothing, and is tame in any kind
 pub record IsCheap (m : Move) : Type 0 where

@@ -36,7 +36,8 @@ pub record Stays (script : Script) (t : ObjNo) (m : Move) : Type 0 where
 abbrev pub AllStay : Script → ObjNo → List Move → Type 0
 AllStay script t ms = AllByRecursion (Stays script t) ms
 
-pub stay-perform : (script : Script) (t : ObjNo) (ms : List Move) (S : State) → AllStay script t ms → MayEndStep script S t → MayEndStep script (perform t ms S) t
+pub stay-perform : (script : Script) (t : ObjNo) (ms : List Move) (S : State) → AllStay script t ms
+    → MayEndStep script S t → MayEndStep script (perform t ms S) t
 stay-perform script t [] S all at = at
 stay-perform script t (m ∷ ms) S all at = stay-perform script t ms (moved t m S) all.1 (all.0.at S at)
 
@@ -51,22 +52,41 @@ pub stays-requests : (script : Script) (t : ObjNo) (m : RequestMove) → Stays s
 stays-requests script t m = record { at = λ S at. ends-same script S (moved t (move.Requests m) S) t refl at }
 
 pub stays-go_on : (script : Script) (t u : ObjNo) (part : Part) → is_returning (Some part) ≡ false → Stays script t (move.GoOn u part)
-stays-go_on script t u part other = record { at = λ S at. at-with_row script S (moved t (move.GoOn u part) S) t u (with_part part) (record { role = λ r. refl; next = λ r. refl; going = λ r e. other }) refl at }
+stays-go_on script t u part other = record {
+  at =
+      λ S at. at-with_row script S (moved t (move.GoOn u part) S) t u (with_part part)
+      (record { role = λ r. refl; next = λ r. refl; going = λ r e. other }) refl at;
+}
 
 pub stays-wake : (script : Script) (t u : ObjNo) → Stays script t (move.Wake u)
-stays-wake script t u = record { at = λ S at. at-with_row script S (moved t (move.Wake u) S) t u (with_waiting waiting.Nothing) (record { role = λ r. refl; next = λ r. refl; going = λ r e. e }) refl at }
+stays-wake script t u = record {
+  at =
+      λ S at. at-with_row script S (moved t (move.Wake u) S) t u (with_waiting waiting.Nothing)
+      (record { role = λ r. refl; next = λ r. refl; going = λ r e. e }) refl at;
+}
 
 -- the loss of a reference
-stays-unlinked : (script : Script) (S T : State) (t o : ObjNo) (last : Bool) → T.references.threads ≡ threads_closed last o S.references.threads → MayEndStep script S t → MayEndStep script T t
+stays-unlinked : (script : Script) (S T : State) (t o : ObjNo) (last : Bool)
+    → T.references.threads ≡ threads_closed last o S.references.threads → MayEndStep script S t → MayEndStep script T t
 stays-unlinked script S T t o true same at = at-with_row script S T t o unlinked (record { role = λ r. refl; next = λ r. refl; going = λ r e. e }) same at
 stays-unlinked script S T t o false same at = ends-same script S T t same at
 
-stays-lost : (script : Script) (S T : State) (t : ObjNo) (h : Holder) → T.references.threads ≡ threads_lose h S.references.threads → MayEndStep script S t → MayEndStep script T t
+stays-lost : (script : Script) (S T : State) (t : ObjNo) (h : Holder)
+    → T.references.threads ≡ threads_lose h S.references.threads → MayEndStep script S t → MayEndStep script T t
 stays-lost script S T t (Temp u) same at = at-with_row script S T t u (with_use None) (record { role = λ r. refl; next = λ r. refl; going = λ r e. e }) same at
 stays-lost script S T t _ same at = ends-same script S T t same at
 
 pub stays-lose : (script : Script) (t : ObjNo) (h : Holder) (o : ObjNo) → Stays script t (move.Lose h o)
-stays-lose script t h o = record { at = λ S at. stays-unlinked script (record S { references = record S.references { threads = threads_lose h S.references.threads } }) (moved t (move.Lose h o) S) t o (dies S o) refl (stays-lost script S (record S { references = record S.references { threads = threads_lose h S.references.threads } }) t h refl at) }
+stays-lose script t h o = record {
+  at =
+      λ S at. stays-unlinked script (record S
+      { references = record S.references { threads = threads_lose h S.references.threads } })
+      (moved t (move.Lose h o) S) t o (dies S o) refl
+      (stays-lost script S (record S {
+        references = record S.references
+            { threads = threads_lose h S.references.threads };
+      }) t h refl at);
+}
 
 -- what finishes a message
 stay-end_wait : (script : Script) (S : State) (t u : ObjNo) (s : ℕ) (row : Option ThreadRow) → AllStay script t (end_wait S u s row)
@@ -86,5 +106,6 @@ pub stay-finish : (script : Script) (S : State) (t : ObjNo) (message : Message) 
 stay-finish script S t message code = (
   stays-messages script t _,
   all-both (Stays script t) (close_refused message code) (reply_to S message.row.client code message.row.way (thread_of S message.row.client))
-      (if_cases (AllStay script t) (is_refused message code) _ _ (λ _. (stays-servers script t _, tt)) (λ _. tt)) (stay-reply_to script S t message.row.client code message.row.way (thread_of S message.row.client)),
+      (if_cases (AllStay script t) (is_refused message code) _ _ (λ _. (stays-servers script t _, tt)) (λ _. tt))
+      (stay-reply_to script S t message.row.client code message.row.way (thread_of S message.row.client)),
 )

@@ -55,7 +55,9 @@ using_bit (Open v o part) = 1
 using_bit _ = 0
 
 abbrev is_tame_move : Kinds → Move → Bool
-is_tame_move k m = (cleaning_bit m + closing_bit m + using_bit m + finding_bit m + coming_bit m == 0) && ((k.serves || serving_bit m == 0) && ((k.locks || mutex_bit m == 0) && (k.goes || going_bit m == 0)))
+is_tame_move k m =
+    (cleaning_bit m + closing_bit m + using_bit m + finding_bit m + coming_bit m == 0) &&
+    ((k.serves || serving_bit m == 0) && ((k.locks || mutex_bit m == 0) && (k.goes || going_bit m == 0)))
 
 abbrev each_tame : Kinds → List Move → Bool
 each_tame k [] = true
@@ -127,7 +129,9 @@ module _ (k : Kinds) (ms : List Move) (e : each_tame k ms ≡ true) where
   rest_move m = free_move m && staying_move m
 
   alone-is : (m : Move) → is_tame_move k m ≡ true → cleaning_bit m + closing_bit m + using_bit m + finding_bit m + coming_bit m ≡ 0
-  alone-is m is = eqb-true (cleaning_bit m + closing_bit m + using_bit m + finding_bit m + coming_bit m) 0 (and_parts (alone m) (calm_move m && rest_move m) is).0
+  alone-is m is =
+      eqb-true (cleaning_bit m + closing_bit m + using_bit m + finding_bit m + coming_bit m) 0
+      (and_parts (alone m) (calm_move m && rest_move m) is).0
 
   seen-cleans : total cleaning_bit ms ≡ 0
   seen-cleans = total-none k cleaning_bit (λ m is. let none = alone-is m is in omega arith) ms e
@@ -138,13 +142,22 @@ module _ (k : Kinds) (ms : List Move) (e : each_tame k ms ≡ true) where
       ∙ sym (total-none k (doomed_bit v) (λ m is. doomed-none v m (let none = alone-is m is in omega arith)) ms e)
 
   seen-calm : k.serves ≡ false → total serving_bit ms ≡ 0
-  seen-calm calm = total-none k serving_bit (λ m is. eqb-true (serving_bit m) 0 (second k.serves (serving_bit m == 0) (and_parts (calm_move m) (rest_move m) (and_parts (alone m) (calm_move m && rest_move m) is).1).0 calm)) ms e
+  seen-calm calm =
+      total-none k serving_bit (λ m is. eqb-true (serving_bit m) 0
+      (second k.serves (serving_bit m == 0) (and_parts (calm_move m) (rest_move m)
+      (and_parts (alone m) (calm_move m && rest_move m) is).1).0 calm)) ms e
 
   seen-mutexes : k.locks ≡ false → total mutex_bit ms ≡ 0
-  seen-mutexes calm = total-none k mutex_bit (λ m is. eqb-true (mutex_bit m) 0 (second k.locks (mutex_bit m == 0) (and_parts (free_move m) (staying_move m) (and_parts (calm_move m) (rest_move m) (and_parts (alone m) (calm_move m && rest_move m) is).1).1).0 calm)) ms e
+  seen-mutexes calm =
+      total-none k mutex_bit (λ m is. eqb-true (mutex_bit m) 0
+      (second k.locks (mutex_bit m == 0) (and_parts (free_move m) (staying_move m)
+      (and_parts (calm_move m) (rest_move m) (and_parts (alone m) (calm_move m && rest_move m) is).1).1).0 calm)) ms e
 
   seen-goes : k.goes ≡ false → total going_bit ms ≡ 0
-  seen-goes stays = total-none k going_bit (λ m is. eqb-true (going_bit m) 0 (second k.goes (going_bit m == 0) (and_parts (free_move m) (staying_move m) (and_parts (calm_move m) (rest_move m) (and_parts (alone m) (calm_move m && rest_move m) is).1).1).1 stays)) ms e
+  seen-goes stays =
+      total-none k going_bit (λ m is. eqb-true (going_bit m) 0
+      (second k.goes (going_bit m == 0) (and_parts (free_move m) (staying_move m)
+      (and_parts (calm_move m) (rest_move m) (and_parts (alone m) (calm_move m && rest_move m) is).1).1).1 stays)) ms e
 
   seen-uses : (u : ObjNo) → total (use_bit u) ms ≡ 0
   seen-uses u = total-none k (use_bit u) (λ m is. used-none u m (let none = alone-is m is in omega arith)) ms e
@@ -161,10 +174,32 @@ tame-at k ms e ends =
     let parts = and_parts (each_tame k ms) (nat_lt (total loss_bit ms) 2) e in
     let each = parts.0 in
     let few = ltb-true (total loss_bit ms) 2 parts.1 in
-    record { cleans = seen-cleans k ms each; advances = ends; dooms = seen-dooms k ms each; calm = seen-calm k ms each; mutexes = seen-mutexes k ms each; goes = seen-goes k ms each; uses = seen-uses k ms each; loses = omega arith; finds = seen-finds k ms each; comes = seen-comes k ms each }
+    record {
+      cleans = seen-cleans k ms each;
+      advances = ends;
+      dooms = seen-dooms k ms each;
+      calm = seen-calm k ms each;
+      mutexes = seen-mutexes k ms each;
+      goes = seen-goes k ms each;
+      uses = seen-uses k ms each;
+      loses = omega arith;
+      finds = seen-finds k ms each;
+      comes = seen-comes k ms each;
+    }
 
 pub tame-in : {k : Kinds} {n : ℕ} {ms : List Move} → IsTame plain n ms → IsTame k n ms
-tame-in h = record { cleans = h.cleans; advances = h.advances; dooms = h.dooms; calm = λ _. h.calm refl; mutexes = λ _. h.mutexes refl; goes = λ _. h.goes refl; uses = h.uses; loses = h.loses; finds = h.finds; comes = h.comes }
+tame-in h = record {
+  cleans = h.cleans;
+  advances = h.advances;
+  dooms = h.dooms;
+  calm = λ _. h.calm refl;
+  mutexes = λ _. h.mutexes refl;
+  goes = λ _. h.goes refl;
+  uses = h.uses;
+  loses = h.loses;
+  finds = h.finds;
+  comes = h.comes;
+}
 
 pub tame-moves : {k : Kinds} {n : ℕ} (ms : List Move) → are_tame plain ms ≡ true → total advance_bit ms ≡ n → IsTame k n ms
 tame-moves ms e ends = tame-in (tame-at plain ms e ends)
@@ -176,18 +211,43 @@ contrary b n is not_so = absurd (cc)
 pub tame-going : {k : Kinds} {n : ℕ} (ms : List Move) → k.goes ≡ true → are_tame going ms ≡ true → total advance_bit ms ≡ n → IsTame k n ms
 tame-going {k = k} ms goes e ends =
     let h : IsTame going _ ms = tame-at going ms e ends in
-    record { cleans = h.cleans; advances = h.advances; dooms = h.dooms; calm = λ _. h.calm refl; mutexes = λ _. h.mutexes refl; goes = λ stays. contrary k.goes (total going_bit ms) goes stays; uses = h.uses; loses = h.loses; finds = h.finds; comes = h.comes }
+    record {
+      cleans = h.cleans;
+      advances = h.advances;
+      dooms = h.dooms;
+      calm = λ _. h.calm refl;
+      mutexes = λ _. h.mutexes refl;
+      goes = λ stays. contrary k.goes (total going_bit ms) goes stays;
+      uses = h.uses;
+      loses = h.loses;
+      finds = h.finds;
+      comes = h.comes;
+    }
 
 -- what serves, in a step that serves and may go on
 pub tame-calling : {n : ℕ} {ms : List Move} → IsTame serving n ms → IsTame calling n ms
-tame-calling h = record { cleans = h.cleans; advances = h.advances; dooms = h.dooms; calm = λ serves. absurd (cc); mutexes = λ _. h.mutexes refl; goes = λ stays. absurd (cc); uses = h.uses; loses = h.loses; finds = h.finds; comes = h.comes }
+tame-calling h = record {
+  cleans = h.cleans;
+  advances = h.advances;
+  dooms = h.dooms;
+  calm = λ serves. absurd (cc);
+  mutexes = λ _. h.mutexes refl;
+  goes = λ stays. absurd (cc);
+  uses = h.uses;
+  loses = h.loses;
+  finds = h.finds;
+  comes = h.comes;
+}
 
 -- moves one behind the other
-pub tame-both : {k : Kinds} {n m : ℕ} (xs ys : List Move) → total loss_bit xs + total loss_bit ys ≤ 1 → IsTame k n xs → IsTame k m ys → IsTame k (n + m) (xs ++ ys)
+pub tame-both : {k : Kinds} {n m : ℕ} (xs ys : List Move) → total loss_bit xs + total loss_bit ys ≤ 1 → IsTame k n xs
+    → IsTame k m ys → IsTame k (n + m) (xs ++ ys)
 tame-both xs ys few h g = record {
   cleans = let both = total-append cleaning_bit xs ys in let p = h.cleans in let q = g.cleans in omega arith;
   advances = let both = total-append advance_bit xs ys in let p = h.advances in let q = g.advances in omega arith;
-  dooms = λ v. let both = total-append (closed_bit v) xs ys in let all = total-append (doomed_bit v) xs ys in let p = h.dooms v in let q = g.dooms v in omega arith;
+  dooms =
+      λ v. let both = total-append (closed_bit v) xs ys in let all = total-append (doomed_bit v) xs ys in
+      let p = h.dooms v in let q = g.dooms v in omega arith;
   calm = λ e. let both = total-append serving_bit xs ys in let p = h.calm e in let q = g.calm e in omega arith;
   mutexes = λ e. let both = total-append mutex_bit xs ys in let p = h.mutexes e in let q = g.mutexes e in omega arith;
   goes = λ e. let both = total-append going_bit xs ys in let p = h.goes e in let q = g.goes e in omega arith;
@@ -201,7 +261,18 @@ doom-closes : (u : ObjNo) (exit : Exit) (v : ObjNo) → total (closed_bit v) (do
 doom-closes u exit v = omega arith
 
 pub tame-doom : {k : Kinds} (u : ObjNo) (exit : Exit) → IsTame k 0 (doom u exit)
-tame-doom u exit = record { cleans = refl; advances = refl; dooms = doom-closes u exit; calm = λ _. refl; mutexes = λ _. refl; goes = λ _. refl; uses = λ u. refl; loses = omega arith; finds = λ o. refl; comes = refl }
+tame-doom u exit = record {
+  cleans = refl;
+  advances = refl;
+  dooms = doom-closes u exit;
+  calm = λ _. refl;
+  mutexes = λ _. refl;
+  goes = λ _. refl;
+  uses = λ u. refl;
+  loses = omega arith;
+  finds = λ o. refl;
+  comes = refl;
+}
 
 -- what a kind may tell
 module _ (k : Kinds) (step : Step) (e : may_tell k step ≡ true) where
@@ -237,7 +308,8 @@ late-answer [] t none = refl
 late-answer (Advance u ∷ ms) t none = absurd (omega arith)
 late-answer (m ∷ ms) t none = late-answer ms t (omega arith)
 
-regular-by : {k : Kinds} {script : Script} {S : State} {t : ObjNo} (d : Decision) → may_tell k d.step ≡ true → going_late d.moves ≡ 0 → IsTame k (answer_bit d.answer) d.moves → IsRegular k script S t d
+regular-by : {k : Kinds} {script : Script} {S : State} {t : ObjNo} (d : Decision) → may_tell k d.step ≡ true
+    → going_late d.moves ≡ 0 → IsTame k (answer_bit d.answer) d.moves → IsRegular k script S t d
 regular-by {k = k} d named last h = record {
   answers = h.advances;
   dooms = h.dooms;
@@ -255,18 +327,23 @@ regular-by {k = k} d named last h = record {
   returns = λ is. let no = told-returns k d.step named in absurd (cc);
 }
 
-pub regular-moves : {k : Kinds} {script : Script} {S : State} {t : ObjNo} (d : Decision) → may_tell k d.step ≡ true → d.answer ≡ None → IsTame k (answer_bit d.answer) d.moves → IsRegular k script S t d
+pub regular-moves : {k : Kinds} {script : Script} {S : State} {t : ObjNo} (d : Decision) → may_tell k d.step ≡ true
+    → d.answer ≡ None → IsTame k (answer_bit d.answer) d.moves → IsRegular k script S t d
 regular-moves d named silent h = regular-by d named (late-none d.moves (h.advances ∙ ap answer_bit silent)) h
 
-pub regular-answer : {k : Kinds} {script : Script} {S : State} {t : ObjNo} (told : Step) (ms : List Move) (code : ℤ) → may_tell k told ≡ true → IsTame k 0 ms → IsRegular k script S t (answer t told ms code)
-regular-answer {t = t} told ms code named h = regular-by (answer t told ms code) named (late-answer ms t h.advances) (tame-both ms (Advance t ∷ []) (let few = h.loses in omega arith) h (tame-moves (Advance t ∷ []) refl refl))
+pub regular-answer : {k : Kinds} {script : Script} {S : State} {t : ObjNo} (told : Step) (ms : List Move) (code : ℤ)
+    → may_tell k told ≡ true → IsTame k 0 ms → IsRegular k script S t (answer t told ms code)
+regular-answer {t = t} told ms code named h =
+    regular-by (answer t told ms code) named (late-answer ms t h.advances)
+    (tame-both ms (Advance t ∷ []) (let few = h.loses in omega arith) h (tame-moves (Advance t ∷ []) refl refl))
 
 pub tame : {k : Kinds} {script : Script} {S : State} {t : ObjNo} (d : Decision) → is_tame k d ≡ true → IsRegular k script S t d
 tame {k = k} d e =
     let late = and_parts (going_late d.moves == 0) ((total advance_bit d.moves == answer_bit d.answer) && (are_tame plain d.moves && may_tell k d.step)) e in
     let parts = and_parts (total advance_bit d.moves == answer_bit d.answer) (are_tame plain d.moves && may_tell k d.step) late.1 in
     let more = and_parts (are_tame plain d.moves) (may_tell k d.step) parts.1 in
-    regular-by d more.1 (eqb-true (going_late d.moves) 0 late.0) (tame-moves d.moves more.0 (eqb-true (total advance_bit d.moves) (answer_bit d.answer) parts.0))
+    regular-by d more.1 (eqb-true (going_late d.moves) 0 late.0)
+    (tame-moves d.moves more.0 (eqb-true (total advance_bit d.moves) (answer_bit d.answer) parts.0))
 
 -- what is owed is paid
 pub regular-pay : {script : Script} {S : State} {t : ObjNo} (what : Owed) → IsRegular plain script S t (pay what)
@@ -274,12 +351,15 @@ regular-pay (Close h o) = tame _ refl
 regular-pay (Sweep o) = tame _ refl
 
 -- a thread comes to use an object, and its instruction goes on: by a look
-own_use : (k : Kinds) (t : ObjNo) (ms : List Move) → k.uses ≡ true → ((u : ObjNo) → total (use_bit u) ms ≡ same t u) → (u : ObjNo) → (u.0 ≡ t.0 → ⊥) ⊎ ((k.uses ≡ false) ⊎ (0 < answer_bit None)) → total (use_bit u) ms ≡ 0
+own_use : (k : Kinds) (t : ObjNo) (ms : List Move) → k.uses ≡ true → ((u : ObjNo) → total (use_bit u) ms ≡ same t u)
+    → (u : ObjNo) → (u.0 ≡ t.0 → ⊥) ⊎ ((k.uses ≡ false) ⊎ (0 < answer_bit None)) → total (use_bit u) ms ≡ 0
 own_use k t ms uses one u (inl apart) = one u ∙ if_not (t.0 == u.0) 1 (eqb_apart t.0 u.0 (λ e. apart (sym e)))
 own_use k t ms uses one u (inr (inl plainly)) = absurd (cc)
 own_use k t ms uses one u (inr (inr answered)) = absurd (omega arith)
 
-pub regular-use : {k : Kinds} {script : Script} {S : State} (t : ObjNo) (told : Step) (o : ObjNo) (part : Part) → may_tell k told ≡ true → k.uses ≡ true → k.goes ≡ true → IsRegular k script S t (go_on t told (Gain (Temp t) o) part)
+pub regular-use : {k : Kinds} {script : Script} {S : State} (t : ObjNo) (told : Step) (o : ObjNo) (part : Part)
+    → may_tell k told ≡ true → k.uses ≡ true → k.goes ≡ true
+    → IsRegular k script S t (go_on t told (Gain (Temp t) o) part)
 regular-use {k = k} t told o part named uses goes = record {
   answers = refl;
   dooms = λ v. refl;
@@ -298,7 +378,9 @@ regular-use {k = k} t told o part named uses goes = record {
 }
 
 -- an object is found
-pub regular-find : {k : Kinds} {script : Script} {S : State} (t : ObjNo) (told : Step) (o : ObjNo) → may_tell k told ≡ true → k.goes ≡ true → IsFinding script S t (one_move told (Find t o)) o → IsRegular k script S t (one_move told (Find t o))
+pub regular-find : {k : Kinds} {script : Script} {S : State} (t : ObjNo) (told : Step) (o : ObjNo)
+    → may_tell k told ≡ true → k.goes ≡ true → IsFinding script S t (one_move told (Find t o)) o
+    → IsRegular k script S t (one_move told (Find t o))
 regular-find {k = k} {script = script} {S = S} t told o named goes finding = record {
   answers = refl;
   dooms = λ v. refl;
@@ -317,7 +399,9 @@ regular-find {k = k} {script = script} {S = S} t told o named goes finding = rec
 }
 
 -- a return: to an object that is opened, and to a dead one
-pub regular-open : {k : Kinds} {script : Script} {S : State} (t : ObjNo) (word : Word) (o : ObjNo) (part : Part) → k.uses ≡ true → k.goes ≡ true → is_returning (part_of (thread_of S t)) ≡ true → IsRegular k script S t (one_move (Of word Return) (Open t o part))
+pub regular-open : {k : Kinds} {script : Script} {S : State} (t : ObjNo) (word : Word) (o : ObjNo) (part : Part)
+    → k.uses ≡ true → k.goes ≡ true → is_returning (part_of (thread_of S t)) ≡ true
+    → IsRegular k script S t (one_move (Of word Return) (Open t o part))
 regular-open {k = k} t word o part uses goes returning = record {
   answers = refl;
   dooms = λ v. refl;
@@ -336,8 +420,12 @@ regular-open {k = k} t word o part uses goes returning = record {
 }
 
 -- what is missed has no use
-missing : {k : Kinds} {script : Script} {S : State} (t : ObjNo) (word : Word) (ms : List Move) (answered : Option ℤ) → total advance_bit ms ≡ answer_bit answered → ((v : ObjNo) → total (closed_bit v) ms ≡ total (doomed_bit v) ms) → total serving_bit ms ≡ 0 → total mutex_bit ms ≡ 0
-    → going_late ms ≡ 0 → total cleaning_bit ms ≡ 0 → ((u : ObjNo) → total (use_bit u) ms ≡ 0) → total loss_bit ms ≡ 0 → ((o : ObjNo) → total (find_bit o) ms ≡ 0) → total coming_bit ms ≡ 1 → k.goes ≡ true → is_returning (part_of (thread_of S t)) ≡ true
+missing : {k : Kinds} {script : Script} {S : State} (t : ObjNo) (word : Word) (ms : List Move) (answered : Option ℤ)
+    → total advance_bit ms ≡ answer_bit answered → ((v : ObjNo) → total (closed_bit v) ms ≡ total (doomed_bit v) ms)
+    → total serving_bit ms ≡ 0 → total mutex_bit ms ≡ 0
+    → going_late ms ≡ 0 → total cleaning_bit ms ≡ 0 → ((u : ObjNo) → total (use_bit u) ms ≡ 0) → total loss_bit ms ≡ 0
+    → ((o : ObjNo) → total (find_bit o) ms ≡ 0) → total coming_bit ms ≡ 1 → k.goes ≡ true
+    → is_returning (part_of (thread_of S t)) ≡ true
     → IsRegular k script S t (record { step = Of word Return; moves = ms; answer = answered })
 missing {k = k} t word ms answered answers dooms calm making last cleans uses loses finds comes goes returning = record {
   answers = answers;
@@ -356,6 +444,7 @@ missing {k = k} t word ms answered answers dooms calm making last cleans uses lo
   returns = λ _. (returning, loses);
 }
 
-pub regular-miss : {k : Kinds} {script : Script} {S : State} (t : ObjNo) (word : Word) (o : ObjNo) (live : Bool) → k.goes ≡ true → is_returning (part_of (thread_of S t)) ≡ true → IsRegular k script S t (miss t word o live)
+pub regular-miss : {k : Kinds} {script : Script} {S : State} (t : ObjNo) (word : Word) (o : ObjNo) (live : Bool)
+    → k.goes ≡ true → is_returning (part_of (thread_of S t)) ≡ true → IsRegular k script S t (miss t word o live)
 regular-miss t word o true goes returning = missing t word _ _ refl (λ v. refl) refl refl refl refl (λ u. refl) refl (λ x. refl) refl goes returning
 regular-miss t word o false goes returning = missing t word _ _ refl (λ v. refl) refl refl refl refl (λ u. refl) refl (λ x. refl) refl goes returning

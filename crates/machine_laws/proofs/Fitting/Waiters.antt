@@ -24,7 +24,8 @@ not_true true h = absurd (h refl)
 not_true false h = refl
 
 -- a thread that waits for no object stands among no waiters
-pub waits_nowhere : (script : Script) (S : State) (u : ObjNo) (row : ThreadRow) → AreRows script S → thread_of S u ≡ Some row → ((o : ObjNo) → row.waiting ≡ waiting.Lock o → ⊥) → WaitsNowhere S u
+pub waits_nowhere : (script : Script) (S : State) (u : ObjNo) (row : ThreadRow) → AreRows script S
+    → thread_of S u ≡ Some row → ((o : ObjNo) → row.waiting ≡ waiting.Lock o → ⊥) → WaitsNowhere S u
 waits_nowhere script S u row rows is not_for o = not_true (is_among u (waiters_at S.synchronization.locks o)) (λ among.
     let awaits = rows.synchronization.locks.waiters u o among in
     let there = awaits.is in
@@ -72,18 +73,26 @@ without_apart w (x ∷ xs) = without_step w x (without w xs) (x.0 == w.0) refl (
 among_inside : (lists : List (List ObjNo)) (k : ℕ) (w : ObjNo) → is_among w (get_or lists k []) ≡ true → k < length lists
 among_inside lists k w among = elim (cases_lt k (length lists)) [
   | inl lt ↦ lt
-  | inr past ↦ let none = get_or_past lists k [] past in let e : is_among w [] ≡ true = subst (λ (l : List ObjNo). is_among w l ≡ true) none among in absurd (cc)
+  | inr past ↦
+      let none = get_or_past lists k [] past in
+      let e : is_among w [] ≡ true = subst (λ (l : List ObjNo). is_among w l ≡ true) none among in
+      absurd (cc)
 ]
 
 -- whoever is struck where it stood among the waiters of an object stands nowhere
-pub struck_nowhere : (script : Script) (S : State) (o w : ObjNo) → AreRows script S → is_among w (waiters_at S.synchronization.locks o) ≡ true → (x : ObjNo) → is_among w (get_or (slice_set S.synchronization.locks.waiters o.0 (without w (waiters_at S.synchronization.locks o))) x.0 []) ≡ false
+pub struck_nowhere : (script : Script) (S : State) (o w : ObjNo) → AreRows script S
+    → is_among w (waiters_at S.synchronization.locks o) ≡ true → (x : ObjNo)
+    → is_among w (get_or (slice_set S.synchronization.locks.waiters o.0
+    (without w (waiters_at S.synchronization.locks o))) x.0 []) ≡ false
 struck_nowhere script S o w rows among x =
     let lists = S.synchronization.locks.waiters in
     let struck = without w (waiters_at S.synchronization.locks o) in
     elim (cases_eq o.0 x.0) as (λ _. is_among w (get_or (slice_set lists o.0 struck) x.0 []) ≡ false) [
       | inl same ↦ subst (λ (k : ℕ). is_among w (get_or (slice_set lists o.0 struck) k []) ≡ false) same
           (ap (is_among w) (get_or-set_same lists o.0 struck [] (among_inside lists o.0 w among)) ∙ without_apart w (waiters_at S.synchronization.locks o))
-      | inr apart ↦ ap (is_among w) (get_or-set_other lists o.0 x.0 struck [] (λ e. apart (sym e))) ∙ not_true (is_among w (waiters_at S.synchronization.locks x)) (λ elsewhere.
+      | inr apart ↦
+          ap (is_among w) (get_or-set_other lists o.0 x.0 struck [] (λ e. apart (sym e)))
+          ∙ not_true (is_among w (waiters_at S.synchronization.locks x)) (λ elsewhere.
           let here = rows.synchronization.locks.waiters w o among in
           let there = rows.synchronization.locks.waiters w x elsewhere in
           let one = here.is in

@@ -28,12 +28,21 @@ rows-keeping script S keep h = record {
 pub well_formed-keeping : (script : Script) (S : State) (qs : List ObjNo) (keep : Bool) → IsWellFormed script S qs → IsWellFormed script (keeping keep S) qs
 well_formed-keeping script S qs keep h = record { rows = rows-keeping script S keep h.rows; ready = record { exact = h.ready.exact; once = h.ready.once } }
 
-pub well_formed-by : (script : Script) (S : State) (qs : List ObjNo) (e : Entry) → IsShaped script → IsWellFormed script S qs → IsWellFormed script (next_by script S e) (arrived_by_entry script S e qs)
-well_formed-by script S qs e shaped h = well_formed-next script (choosing e S) e.actor qs shaped (well_formed-keeping script S qs (S.mode.shared && is_deathless e.effects) h)
+pub well_formed-by : (script : Script) (S : State) (qs : List ObjNo) (e : Entry) → IsShaped script
+    → IsWellFormed script S qs → IsWellFormed script (next_by script S e) (arrived_by_entry script S e qs)
+well_formed-by script S qs e shaped h =
+    well_formed-next script (choosing e S) e.actor qs shaped
+    (well_formed-keeping script S qs (S.mode.shared && is_deathless e.effects) h)
 
-pub well_formed-after_from : (script : Script) (S : State) (qs : List ObjNo) (es : List Entry) → IsShaped script → IsWellFormed script S qs → IsWellFormed script (after_from script S es) (arrived_from script S qs es)
+pub well_formed-after_from : (script : Script) (S : State) (qs : List ObjNo) (es : List Entry) → IsShaped script
+    → IsWellFormed script S qs → IsWellFormed script (after_from script S es) (arrived_from script S qs es)
 well_formed-after_from script S qs [] shaped h = h
-well_formed-after_from script S qs (e ∷ es) shaped h = well_formed-after_from script (next_by script S e) (arrived_by_entry script S e qs) es shaped (well_formed-by script S qs e shaped h)
+well_formed-after_from script S qs (e ∷ es) shaped h =
+    well_formed-after_from script (next_by script S e) (arrived_by_entry script S e qs) es shaped
+    (well_formed-by script S qs e shaped h)
 
-pub well_formed-after : (shared : Bool) (script : Script) (history : List Entry) → IsWellFormedScript script → IsWellFormed script (after_in shared script history) (arrived_in shared script history)
-well_formed-after shared script history valid = well_formed-after_from script (boot_in shared script) (ready_at_boot script) history (formed_is_shaped script valid) (well_formed-boot shared script valid)
+pub well_formed-after : (shared : Bool) (script : Script) (history : List Entry) → IsWellFormedScript script
+    → IsWellFormed script (after_in shared script history) (arrived_in shared script history)
+well_formed-after shared script history valid =
+    well_formed-after_from script (boot_in shared script) (ready_at_boot script) history (formed_is_shaped script valid)
+    (well_formed-boot shared script valid)

@@ -162,9 +162,14 @@ blind-all script t (m ∷ ms) S none =
     let rest = blind-all script t ms (moved t m S) (omega arith) in
     record {
       moves = λ keep. ap (perform t ms) (first.moves keep) ∙ rest.moves keep;
-      tells = λ keep. ap (λ (effects : List Effect). effects ++ tell t ms (moved t m (keeping keep S))) (first.tells keep) ∙ ap (λ (T : State). told m S ++ tell t ms T) (first.moves keep) ∙ ap (λ (effects : List Effect). told m S ++ effects) (rest.tells keep);
+      tells =
+          λ keep. ap (λ (effects : List Effect). effects ++ tell t ms (moved t m (keeping keep S))) (first.tells keep)
+          ∙ ap (λ (T : State). told m S ++ tell t ms T) (first.moves keep)
+          ∙ ap (λ (effects : List Effect). told m S ++ effects) (rest.tells keep);
       silent = first.silent (tell t ms (moved t m S)) ∙ rest.silent;
-      arrives = λ keep qs. arrives-behind script t m ms (keeping keep S) (moved t m S) keep (first.moves keep) qs ∙ rest.arrives keep (arrive script (moved t m S) (touched t m) (taken_out m qs));
+      arrives =
+          λ keep qs. arrives-behind script t m ms (keeping keep S) (moved t m S) keep (first.moves keep) qs
+          ∙ rest.arrives keep (arrive script (moved t m S) (touched t m) (taken_out m qs));
     }
 
 -- a move that gives a reference up asks the choice whether the object dies, and nothing else
@@ -189,29 +194,40 @@ dies-too : (one kept : Bool) → (one && not kept) ≡ true → (one && true) �
 dies-too true kept e = refl
 dies-too false kept e = e
 
-module _ (script : Script) (t : ObjNo) (m : Move) (h : Holder) (o : ObjNo) (ms : List Move) (S : State) (c : IsClose t m h o) (none : total close_bit ms ≡ 0) where
+module _ (script : Script) (t : ObjNo) (m : Move) (h : Holder) (o : ObjNo) (ms : List Move) (S : State)
+    (c : IsClose t m h o) (none : total close_bit ms ≡ 0) where
   with_death : (dying : Bool) → dies (keeping true S) o ≡ dying → dies (keeping false S) o ≡ dying → AreSame script t (m ∷ ms) S
   with_death dying kept died =
       let T = c.after dying S in
       let rest = blind-all script t ms T none in
-      let first : (keep : Bool) → dies (keeping keep S) o ≡ dying → moved t m (keeping keep S) ≡ keeping keep T = λ keep e. c.moves (keeping keep S) ∙ ap (λ (b : Bool). c.after b (keeping keep S)) e ∙ c.blind dying keep S in
+      let first : (keep : Bool) → dies (keeping keep S) o ≡ dying → moved t m (keeping keep S) ≡ keeping keep T =
+      λ keep e. c.moves (keeping keep S) ∙ ap (λ (b : Bool). c.after b (keeping keep S)) e ∙ c.blind dying keep S in
       let tells : (keep : Bool) → dies (keeping keep S) o ≡ dying → tell t (m ∷ ms) (keeping keep S) ≡ closed_effects dying h o ++ tell t ms T = λ keep e.
       ap (λ (effects : List Effect). effects ++ tell t ms (moved t m (keeping keep S))) (c.tells (keeping keep S) ∙ ap (λ (b : Bool). closed_effects b h o) e)
-      ∙ ap (λ (U : State). closed_effects dying h o ++ tell t ms U) (first keep e) ∙ ap (λ (effects : List Effect). closed_effects dying h o ++ effects) (rest.tells keep) in
+      ∙ ap (λ (U : State). closed_effects dying h o ++ tell t ms U) (first keep e)
+      ∙ ap (λ (effects : List Effect). closed_effects dying h o ++ effects) (rest.tells keep) in
       record {
         moves = ap (perform t ms) (first true kept) ∙ rest.moves true ∙ sym (ap (keeping true) (ap (perform t ms) (first false died) ∙ rest.moves false));
         tells = tells true kept ∙ sym (tells false died);
         arrives = λ qs.
-            let arrives : (keep : Bool) → dies (keeping keep S) o ≡ dying → arrivals script t (m ∷ ms) (keeping keep S) qs ≡ arrivals script t ms T (arrive script T (touched t m) (taken_out m qs)) = λ keep e.
-            arrives-behind script t m ms (keeping keep S) T keep (first keep e) qs ∙ rest.arrives keep (arrive script T (touched t m) (taken_out m qs)) in arrives true kept ∙ sym (arrives false died);
+            let arrives : (keep : Bool) → dies (keeping keep S) o ≡ dying
+            → arrivals script t (m ∷ ms) (keeping keep S) qs
+            ≡ arrivals script t ms T (arrive script T (touched t m) (taken_out m qs)) =
+            λ keep e.
+            arrives-behind script t m ms (keeping keep S) T keep (first keep e) qs
+            ∙ rest.arrives keep (arrive script T (touched t m) (taken_out m qs)) in arrives true kept
+            ∙ sym (arrives false died);
       }
 
   parted : dies (keeping true S) o ≡ false → dies (keeping false S) o ≡ true → ArePart t (m ∷ ms) S
   parted kept died = record {
     kept =
-        ap (λ (effects : List Effect). is_deathless (effects ++ tell t ms (moved t m (keeping true S)))) (c.tells (keeping true S) ∙ ap (λ (b : Bool). closed_effects b h o) kept)
+        ap (λ (effects : List Effect). is_deathless (effects ++ tell t ms (moved t m (keeping true S))))
+        (c.tells (keeping true S) ∙ ap (λ (b : Bool). closed_effects b h o) kept)
         ∙ (blind-all script t ms (moved t m (keeping true S)) none).silent;
-    died = ap (λ (effects : List Effect). is_deathless (effects ++ tell t ms (moved t m (keeping false S)))) (c.tells (keeping false S) ∙ ap (λ (b : Bool). closed_effects b h o) died);
+    died =
+        ap (λ (effects : List Effect). is_deathless (effects ++ tell t ms (moved t m (keeping false S))))
+        (c.tells (keeping false S) ∙ ap (λ (b : Bool). closed_effects b h o) died);
   }
 
   close-one : (kept died : Bool) → dies (keeping true S) o ≡ kept → dies (keeping false S) o ≡ died → AreSame script t (m ∷ ms) S ⊎ ArePart t (m ∷ ms) S
@@ -255,12 +271,17 @@ pay-closes : (t : ObjNo) (h : Holder) (o : ObjNo) → IsClose t (Pay (Close h o)
 pay-closes t h o = record { after = after_close t o; moves = λ S. refl; tells = λ S. refl; blind = λ dying keep S. refl }
 
 -- moves of which one at most gives a reference up
-behind : (script : Script) (t : ObjNo) (m : Move) (ms : List Move) (S : State) → IsBlind t m S → AreSame script t ms (moved t m S) ⊎ ArePart t ms (moved t m S) → AreSame script t (m ∷ ms) S ⊎ ArePart t (m ∷ ms) S
+behind : (script : Script) (t : ObjNo) (m : Move) (ms : List Move) (S : State) → IsBlind t m S
+    → AreSame script t ms (moved t m S) ⊎ ArePart t ms (moved t m S)
+    → AreSame script t (m ∷ ms) S ⊎ ArePart t (m ∷ ms) S
 behind script t m ms S first rest = elim rest as (λ _. AreSame script t (m ∷ ms) S ⊎ ArePart t (m ∷ ms) S) [
   | inl same ↦ inl (record {
     moves = ap (perform t ms) (first.moves true) ∙ same.moves ∙ ap (λ (T : State). keeping true (perform t ms T)) (sym (first.moves false));
     tells = tells true ∙ ap (λ (effects : List Effect). told m S ++ effects) same.tells ∙ sym (tells false);
-    arrives = λ qs. arrives-behind script t m ms (keeping true S) (moved t m S) true (first.moves true) qs ∙ same.arrives (arrive script (moved t m S) (touched t m) (taken_out m qs)) ∙ sym (arrives-behind script t m ms (keeping false S) (moved t m S) false (first.moves false) qs);
+    arrives =
+        λ qs. arrives-behind script t m ms (keeping true S) (moved t m S) true (first.moves true) qs
+        ∙ same.arrives (arrive script (moved t m S) (touched t m) (taken_out m qs))
+        ∙ sym (arrives-behind script t m ms (keeping false S) (moved t m S) false (first.moves false) qs);
   })
   | inr part ↦ inr (record {
     kept = ap is_deathless (tells true) ∙ first.silent (tell t ms (keeping true (moved t m S))) ∙ part.kept;
@@ -269,7 +290,8 @@ behind script t m ms S first rest = elim rest as (λ _. AreSame script t (m ∷ 
 ]
   where
     tells : (keep : Bool) → tell t (m ∷ ms) (keeping keep S) ≡ told m S ++ tell t ms (keeping keep (moved t m S))
-    tells keep = ap (λ (effects : List Effect). effects ++ tell t ms (moved t m (keeping keep S))) (first.tells keep) ∙ ap (λ (T : State). told m S ++ tell t ms T) (first.moves keep)
+    tells keep = ap (λ (effects : List Effect). effects ++ tell t ms (moved t m (keeping keep S))) (first.tells keep)
+        ∙ ap (λ (T : State). told m S ++ tell t ms T) (first.moves keep)
 
 pub same-or-part : (script : Script) (t : ObjNo) (ms : List Move) (S : State) → total close_bit ms ≤ 1 → AreSame script t ms S ⊎ ArePart t ms S
 same-or-part script t [] S few = inl (record { moves = refl; tells = refl; arrives = λ qs. refl })
@@ -289,7 +311,9 @@ pay-one (Sweep o) = omega arith
 
 pub closes-few : (script : Script) (S : State) (t : ObjNo) → IsShaped script → AreRows script S → total close_bit (decision_of script S t).moves ≤ 1
 closes-few script S t shaped rows = elim (fits-action script S t shaped rows) as (λ _. total close_bit (decision_of script S t).moves ≤ 1) [
-  | inl fits ↦ (let same = no-pay script t (decision_of script S t).moves S fits.each in let regular = regular-action script S t shaped rows in let few = regular.1.loses in omega arith)
+  | inl fits ↦
+      (let same = no-pay script t (decision_of script S t).moves S fits.each in
+      let regular = regular-action script S t shaped rows in let few = regular.1.loses in omega arith)
   | inr pays ↦ subst (λ (ms : List Move). total close_bit ms ≤ 1) (sym pays.moves) (pay-one pays.what)
 ]
 
@@ -305,7 +329,8 @@ op-same script S keep (op.Fssignal name) = refl
 op-same script S keep (op.Device d code) = refl
 op-same script S keep (op.Queue name) = refl
 
-ops-same : (script : Script) (t : ObjNo) (keep : Bool) (S : State) (ops : List Op) → Sane script t S → ops_moves script t (keeping keep S) ops ≡ ops_moves script t S ops
+ops-same : (script : Script) (t : ObjNo) (keep : Bool) (S : State) (ops : List Op) → Sane script t S
+    → ops_moves script t (keeping keep S) ops ≡ ops_moves script t S ops
 ops-same script t keep S [] sane = refl
 ops-same script t keep S (first ∷ rest) sane =
     let ms = op_moves script S first in
@@ -320,7 +345,8 @@ leave-same S keep (Interrupt k) = refl
 leave-same S keep (Immediate item) = refl
 leave-same S keep (Deferred dfc) = refl
 
-pub body-same : (script : Script) (t : ObjNo) (S : State) (keep : Bool) (body : Body) → Sane script t S → run_body script t (keeping keep S) body ≡ run_body script t S body
+pub body-same : (script : Script) (t : ObjNo) (S : State) (keep : Bool) (body : Body) → Sane script t S
+    → run_body script t (keeping keep S) body ≡ run_body script t S body
 body-same script t S keep body sane =
     let left = leave_queue S body in
     let light = light-leave script S t body sane.rows in
@@ -332,20 +358,25 @@ body-same script t S keep body sane =
     )
 
 -- so is what a thread decides
-task-same : (script : Script) (t : ObjNo) (S : State) (keep : Bool) (row : ThreadRow) (what : Task) → Sane script t S → decision_of_task script (keeping keep S) t row what ≡ decision_of_task script S t row what
+task-same : (script : Script) (t : ObjNo) (S : State) (keep : Bool) (row : ThreadRow) (what : Task) → Sane script t S
+    → decision_of_task script (keeping keep S) t row what ≡ decision_of_task script S t row what
 task-same script t S keep row (RunDfc dfc) sane = body-same script t S keep (Deferred dfc) sane
 task-same script t S keep row _ sane = refl
 
-row-same : (script : Script) (t : ObjNo) (S : State) (keep : Bool) (row : Option ThreadRow) (what : Option Task) → Sane script t S → decision_of_row script (keeping keep S) t row what ≡ decision_of_row script S t row what
+row-same : (script : Script) (t : ObjNo) (S : State) (keep : Bool) (row : Option ThreadRow) (what : Option Task)
+    → Sane script t S → decision_of_row script (keeping keep S) t row what ≡ decision_of_row script S t row what
 row-same script t S keep (Some row) (Some what) sane = task-same script t S keep row what sane
 row-same script t S keep _ _ sane = refl
 
-pub decision-same : (script : Script) (S : State) (t : ObjNo) (keep : Bool) → IsShaped script → AreRows script S → decision_of script (keeping keep S) t ≡ decision_of script S t
+pub decision-same : (script : Script) (S : State) (t : ObjNo) (keep : Bool) → IsShaped script → AreRows script S
+    → decision_of script (keeping keep S) t ≡ decision_of script S t
 decision-same script S t keep shaped rows = where-same (may_act script S t) (thread_of S t) refl (task_of script S t)
   where
-    where-same : (able : Bool) (row : Option ThreadRow) → thread_of S t ≡ row → (what : Option Task) → decision_where script able (keeping keep S) t what ≡ decision_where script able S t what
+    where-same : (able : Bool) (row : Option ThreadRow) → thread_of S t ≡ row → (what : Option Task)
+        → decision_where script able (keeping keep S) t what ≡ decision_where script able S t what
     where-same false row is what = refl
-    where-same true None is what = ap (λ (r : Option ThreadRow). decision_of_row script (keeping keep S) t r what) is ∙ sym (ap (λ (r : Option ThreadRow). decision_of_row script S t r what) is)
+    where-same true None is what = ap (λ (r : Option ThreadRow). decision_of_row script (keeping keep S) t r what) is
+        ∙ sym (ap (λ (r : Option ThreadRow). decision_of_row script S t r what) is)
     where-same true (Some row) is what =
         ap (λ (r : Option ThreadRow). decision_of_row script (keeping keep S) t r what) is
         ∙ row-same script t S keep (Some row) what (record { rows = rows; inside = inside S.references.threads t.0 row is })
@@ -365,20 +396,26 @@ abbrev Both : Transition → Transition → (List ObjNo → List ObjNo) → (Lis
 Both kept died here there = ActSame kept died here there ⊎ ActPart kept died
 
 abbrev BothOut : Script → ObjNo → State → Decision → Decision → Type 0
-BothOut script t S d e = Both (carried_out script t (keeping true S) d) (carried_out script t (keeping false S) e) (λ qs. ready_after script t d.moves (keeping true S) qs) (λ qs. ready_after script t e.moves (keeping false S) qs)
+BothOut script t S d e =
+    Both (carried_out script t (keeping true S) d) (carried_out script t (keeping false S) e)
+    (λ qs. ready_after script t d.moves (keeping true S) qs) (λ qs. ready_after script t e.moves (keeping false S) qs)
 
 carried-out : (script : Script) (t : ObjNo) (S : State) (d : Decision) → total close_bit d.moves ≤ 1 → BothOut script t S d d
 carried-out script t S d few = elim (same-or-part script t d.moves S few) as (λ _. BothOut script t S d d) [
   | inl same ↦ inl (record {
     state = same.moves;
     outcome = ap (λ (effects : List Effect). record { step = d.step; effects = effects; answer = d.answer }) same.tells;
-    ready = λ qs. ap (λ (T : State). filter (is_ready script T) (arrivals script t d.moves (keeping true S) qs)) same.moves ∙ ap (filter (is_ready script (perform t d.moves (keeping false S)))) (same.arrives qs);
+    ready =
+        λ qs. ap (λ (T : State). filter (is_ready script T) (arrivals script t d.moves (keeping true S) qs)) same.moves
+        ∙ ap (filter (is_ready script (perform t d.moves (keeping false S)))) (same.arrives qs);
   })
   | inr part ↦ inr (record { kept = part.kept; died = part.died })
 ]
 
 -- also where the decisions are made with either choice, if those are the same
-carried-by : (script : Script) (t : ObjNo) (S : State) (decide : State → Decision) → ((keep : Bool) → decide (keeping keep S) ≡ decide S) → total close_bit (decide S).moves ≤ 1 → BothOut script t S (decide (keeping true S)) (decide (keeping false S))
+carried-by : (script : Script) (t : ObjNo) (S : State) (decide : State → Decision)
+    → ((keep : Bool) → decide (keeping keep S) ≡ decide S) → total close_bit (decide S).moves ≤ 1
+    → BothOut script t S (decide (keeping true S)) (decide (keeping false S))
 carried-by script t S decide same few =
     subst (λ (d : Decision). BothOut script t S d (decide (keeping false S))) (sym (same true))
     (subst (λ (d : Decision). BothOut script t S (decide S) d) (sym (same false)) (carried-out script t S (decide S) few))
@@ -386,28 +423,38 @@ carried-by script t S decide same few =
 light-few : (script : Script) (t : ObjNo) (S : State) (ms : List Move) (n : ℕ) → OwesNothing plain script t S ms n → total close_bit ms ≤ 1
 light-few script t S ms n light = let same = no-pay script t ms S light.each in let none = light_loses light in omega arith
 
-pub plan-same : (script : Script) (S : State) (keep : Bool) (found : Option Item) → AreRows script S → decision_by script supervisor (keeping keep S) (immediate_plan script (keeping keep S) found) ≡ decision_by script supervisor S (immediate_plan script S found)
+pub plan-same : (script : Script) (S : State) (keep : Bool) (found : Option Item) → AreRows script S
+    → decision_by script supervisor (keeping keep S) (immediate_plan script (keeping keep S) found)
+    ≡ decision_by script supervisor S (immediate_plan script S found)
 plan-same script S keep None rows = refl
 plan-same script S keep (Some (item.Idfc call)) rows = body-same script supervisor S keep (Immediate call) (sane-supervisor script S rows)
 plan-same script S keep (Some (item.Move dfc)) rows = refl
 
 abbrev Acts : Script → State → Actor → Type 0
-Acts script S actor = Both (transition script (keeping true S) actor) (transition script (keeping false S) actor) (λ qs. arrived_next script (keeping true S) actor qs) (λ qs. arrived_next script (keeping false S) actor qs)
+Acts script S actor =
+    Both (transition script (keeping true S) actor) (transition script (keeping false S) actor)
+    (λ qs. arrived_next script (keeping true S) actor qs) (λ qs. arrived_next script (keeping false S) actor qs)
 
 act-acts : (script : Script) (S : State) (t : ObjNo) → IsShaped script → AreRows script S → Acts script S (Thread t)
 unfolding act
-act-acts script S t shaped rows = carried-by script t S (λ (T : State). decision_of script T t) (λ keep. decision-same script S t keep shaped rows) (closes-few script S t shaped rows)
+act-acts script S t shaped rows =
+    carried-by script t S (λ (T : State). decision_of script T t) (λ keep. decision-same script S t keep shaped rows)
+    (closes-few script S t shaped rows)
 
 interrupt-acts : (script : Script) (S : State) (k : ℕ) → IsShaped script → AreRows script S → Acts script S (Irq k)
 unfolding interrupt
 interrupt-acts script S k shaped rows =
-    carried-by script supervisor S (λ (T : State). decision_by script supervisor T (Runs (Interrupt k))) (λ keep. body-same script supervisor S keep (Interrupt k) (sane-supervisor script S rows)) (light-few script supervisor S _ 4 (light-interrupt script S k shaped rows))
+    carried-by script supervisor S (λ (T : State). decision_by script supervisor T (Runs (Interrupt k)))
+    (λ keep. body-same script supervisor S keep (Interrupt k) (sane-supervisor script S rows))
+    (light-few script supervisor S _ 4 (light-interrupt script S k shaped rows))
 
 immediate-acts : (script : Script) (S : State) → IsShaped script → AreRows script S → Acts script S Idfc
 unfolding immediate
 immediate-acts script S shaped rows =
     let found = next_immediate S.synchronization.deferred in
-    carried-by script supervisor S (λ (T : State). decision_by script supervisor T (immediate_plan script T found)) (λ keep. plan-same script S keep found rows) (light-few script supervisor S _ 4 (light-immediate script S found shaped rows refl))
+    carried-by script supervisor S (λ (T : State). decision_by script supervisor T (immediate_plan script T found))
+    (λ keep. plan-same script S keep found rows)
+    (light-few script supervisor S _ 4 (light-immediate script S found shaped rows refl))
 
 pub each-acts : (script : Script) (S : State) (actor : Actor) → IsShaped script → AreRows script S → Acts script S actor
 each-acts script S (Thread t) shaped rows = act-acts script S t shaped rows
@@ -418,44 +465,68 @@ each-acts script S Idle shaped rows = inl (record { state = refl; outcome = refl
 
 -- an action with a choice writes the entry that it writes with the choice which that tells, and leaves the same
 pub record TellsChoice (script : Script) (S : State) (place : ℕ) (actor : Actor) (keep : Bool) : Type 0 where
-  pub entry : entry_by script (keeping keep S) place actor ≡ entry_by script (keeping (is_deathless (transition script (keeping keep S) actor).outcome.effects) S) place actor
-  pub state : keeping (is_deathless (transition script (keeping keep S) actor).outcome.effects) (next script (keeping keep S) actor) ≡ next script (keeping (is_deathless (transition script (keeping keep S) actor).outcome.effects) S) actor
-  pub ready : (qs : List ObjNo) → arrived_next script (keeping keep S) actor qs ≡ arrived_next script (keeping (is_deathless (transition script (keeping keep S) actor).outcome.effects) S) actor qs
+  pub entry : entry_by script (keeping keep S) place actor
+      ≡ entry_by script (keeping (is_deathless (transition script (keeping keep S) actor).outcome.effects) S) place
+      actor
+  pub state : keeping (is_deathless (transition script (keeping keep S) actor).outcome.effects)
+      (next script (keeping keep S) actor) ≡ next script
+      (keeping (is_deathless (transition script (keeping keep S) actor).outcome.effects) S) actor
+  pub ready : (qs : List ObjNo)
+      → arrived_next script (keeping keep S) actor qs
+      ≡ arrived_next script (keeping (is_deathless (transition script (keeping keep S) actor).outcome.effects) S) actor
+      qs
 
-next-keeps : (script : Script) (S : State) (actor : Actor) (keep : Bool) → keeping keep (next script (keeping keep S) actor) ≡ next script (keeping keep S) actor
+next-keeps : (script : Script) (S : State) (actor : Actor) (keep : Bool)
+    → keeping keep (next script (keeping keep S) actor) ≡ next script (keeping keep S) actor
 next-keeps script S actor keep = kept-same keep (next script (keeping keep S) actor) (ap (λ (m : Mode). m.keep) (mode-next script (keeping keep S) actor))
 
-pub tells-choice : (script : Script) (S : State) (place : ℕ) (actor : Actor) (keep : Bool) → IsShaped script → AreRows script S → TellsChoice script S place actor keep
+pub tells-choice : (script : Script) (S : State) (place : ℕ) (actor : Actor) (keep : Bool) → IsShaped script
+    → AreRows script S → TellsChoice script S place actor keep
 tells-choice script S place actor keep shaped rows = by keep (is_deathless (transition script (keeping keep S) actor).outcome.effects) refl
   where
     -- of a choice that is told
     told_so : (choice : Bool) → is_deathless (transition script (keeping choice S) actor).outcome.effects ≡ choice → TellsChoice script S place actor choice
     told_so choice is = record {
       entry = ap (λ (b : Bool). entry_by script (keeping b S) place actor) (sym is);
-      state = ap (λ (b : Bool). keeping b (next script (keeping choice S) actor)) is ∙ next-keeps script S actor choice ∙ ap (λ (b : Bool). next script (keeping b S) actor) (sym is);
+      state =
+          ap (λ (b : Bool). keeping b (next script (keeping choice S) actor)) is
+          ∙ next-keeps script S actor choice
+          ∙ ap (λ (b : Bool). next script (keeping b S) actor) (sym is);
       ready = λ qs. ap (λ (b : Bool). arrived_next script (keeping b S) actor qs) (sym is);
     }
 
     -- and of one that made no difference
-    other : ActSame (transition script (keeping true S) actor) (transition script (keeping false S) actor) (λ qs. arrived_next script (keeping true S) actor qs) (λ qs. arrived_next script (keeping false S) actor qs) → (choice deathless : Bool) → is_deathless (transition script (keeping choice S) actor).outcome.effects ≡ deathless → TellsChoice script S place actor choice
+    other : ActSame (transition script (keeping true S) actor) (transition script (keeping false S) actor)
+        (λ qs. arrived_next script (keeping true S) actor qs) (λ qs. arrived_next script (keeping false S) actor qs)
+        → (choice deathless : Bool) → is_deathless (transition script (keeping choice S) actor).outcome.effects ≡ deathless
+        → TellsChoice script S place actor choice
     other same true true is = told_so true is
     other same false false is = told_so false is
     other same true false is = record {
       entry = ap (entry_of place actor) same.outcome ∙ ap (λ (b : Bool). entry_by script (keeping b S) place actor) (sym is);
-      state = ap (λ (b : Bool). keeping b (next script (keeping true S) actor)) is ∙ ap (keeping false) same.state ∙ next-keeps script S actor false ∙ ap (λ (b : Bool). next script (keeping b S) actor) (sym is);
+      state =
+          ap (λ (b : Bool). keeping b (next script (keeping true S) actor)) is
+          ∙ ap (keeping false) same.state
+          ∙ next-keeps script S actor false
+          ∙ ap (λ (b : Bool). next script (keeping b S) actor) (sym is);
       ready = λ qs. same.ready qs ∙ ap (λ (b : Bool). arrived_next script (keeping b S) actor qs) (sym is);
     }
     other same false true is = record {
       entry = sym (ap (entry_of place actor) same.outcome) ∙ ap (λ (b : Bool). entry_by script (keeping b S) place actor) (sym is);
-      state = ap (λ (b : Bool). keeping b (next script (keeping false S) actor)) is ∙ sym same.state ∙ ap (λ (b : Bool). next script (keeping b S) actor) (sym is);
+      state =
+          ap (λ (b : Bool). keeping b (next script (keeping false S) actor)) is
+          ∙ sym same.state
+          ∙ ap (λ (b : Bool). next script (keeping b S) actor) (sym is);
       ready = λ qs. sym (same.ready qs) ∙ ap (λ (b : Bool). arrived_next script (keeping b S) actor qs) (sym is);
     }
 
-    parted : ActPart (transition script (keeping true S) actor) (transition script (keeping false S) actor) → (choice : Bool) → TellsChoice script S place actor choice
+    parted : ActPart (transition script (keeping true S) actor) (transition script (keeping false S) actor)
+        → (choice : Bool) → TellsChoice script S place actor choice
     parted part true = told_so true part.kept
     parted part false = told_so false part.died
 
-    by : (choice deathless : Bool) → is_deathless (transition script (keeping choice S) actor).outcome.effects ≡ deathless → TellsChoice script S place actor choice
+    by : (choice deathless : Bool) → is_deathless (transition script (keeping choice S) actor).outcome.effects
+        ≡ deathless → TellsChoice script S place actor choice
     by choice deathless is = elim (each-acts script S actor shaped rows) as (λ _. TellsChoice script S place actor choice) [
       | inl same ↦ other same choice deathless is
       | inr part ↦ parted part choice

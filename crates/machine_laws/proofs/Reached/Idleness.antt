@@ -16,7 +16,8 @@ use Rattle.move_laws.proofs.Readiness.FirstReady.{first_listed, none_listed}
 use Rattle.move_laws.proofs.Readiness.ReadyHolders.{place_able}
 
 -- where no item waits and no thread is ready, nobody could act
-pub idle_of : (script : Script) (S : State) (qs : List ObjNo) → IsWellFormed script S qs → next_immediate S.synchronization.deferred ≡ None → first_ready S qs ≡ None → IsIdle script S
+pub idle_of : (script : Script) (S : State) (qs : List ObjNo) → IsWellFormed script S qs
+    → next_immediate S.synchronization.deferred ≡ None → first_ready S qs ≡ None → IsIdle script S
 idle_of script S qs formed none first = record {
   none = none;
   nobody = λ t. ap (λ (ready : Bool). ready && is_none (wanted_holder S.synchronization.nano t)) (sym (formed.ready.exact t) ∙ none_listed S qs t first);
@@ -26,7 +27,8 @@ idle_of script S qs formed none first = record {
 pub chosen_idle : (script : Script) (S : State) (qs : List ObjNo) → IsWellFormed script S qs → chosen S qs ≡ Idle → IsIdle script S
 chosen_idle script S qs formed idle = by (next_immediate S.synchronization.deferred) refl idle
   where
-    thread : next_immediate S.synchronization.deferred ≡ None → (found : Option ObjNo) → first_ready S qs ≡ found → actor_of (option_map (in_place_of S.synchronization.nano) found) ≡ Idle → IsIdle script S
+    thread : next_immediate S.synchronization.deferred ≡ None → (found : Option ObjNo) → first_ready S qs ≡ found
+        → actor_of (option_map (in_place_of S.synchronization.nano) found) ≡ Idle → IsIdle script S
     thread none None first e = idle_of script S qs formed none first
     thread none (Some t) first e = absurd (cc)
 

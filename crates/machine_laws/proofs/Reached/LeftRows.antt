@@ -18,5 +18,6 @@ pub rows_from_swept : (S : State) (n : ℕ) → slice_get S.references.objects n
 rows_from_swept S n h = ap (rows_of S n) (drop_got_one S.references.objects n None h)
 
 -- an object that isn't swept has one
-pub rows_from_left : (S : State) (n : ℕ) (row : ObjectRow) → slice_get S.references.objects n ≡ Some (Some row) → rows_from S n ≡ final_row S n row ∷ rows_from S (n + 1)
+pub rows_from_left : (S : State) (n : ℕ) (row : ObjectRow) → slice_get S.references.objects n ≡ Some (Some row)
+    → rows_from S n ≡ final_row S n row ∷ rows_from S (n + 1)
 rows_from_left S n row h = ap (rows_of S n) (drop_got_one S.references.objects n (Some row) h)

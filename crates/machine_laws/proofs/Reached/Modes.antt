@@ -65,7 +65,9 @@ shared-after script S (e ∷ es) = shared-after script (next_by script S e) es �
 pub unkept-after : (script : Script) (S : State) (es : List Entry) → S.mode.shared ≡ false → S.mode.keep ≡ false → (after_from script S es).mode.keep ≡ false
 unkept-after script S [] alone unkept = unkept
 unkept-after script S (e ∷ es) alone unkept =
-    unkept-after script (next_by script S e) es (shared-by script S e ∙ alone) (ap (λ (m : Mode). m.keep) (mode-next script (choosing e S) e.actor) ∙ ap (λ (b : Bool). b && is_deathless e.effects) alone)
+    unkept-after script (next_by script S e) es (shared-by script S e ∙ alone)
+    (ap (λ (m : Mode). m.keep) (mode-next script (choosing e S) e.actor)
+    ∙ ap (λ (b : Bool). b && is_deathless e.effects) alone)
 
 -- a state whose choice is this one
 pub kept-same : (keep : Bool) (S : State) → S.mode.keep ≡ keep → keeping keep S ≡ S

@@ -29,7 +29,8 @@ use Rattle.machine_laws.proofs.Sharing.Decided.{decided-mode, plan-mode, task-mo
 use Rattle.machine_laws.proofs.Sharing.Moved.{in_mode, IsAlone, TellsNoDeath, perform-mode, tell-mode}
 
 -- who is able where one caller is alone is able where callers share the kernel, unless it is out
-out_bits : (waits returns going has free : Bool) → (not (waits || returns) && going && has && free) ≡ ((not (waits || false) && going && has && free) && not returns)
+out_bits : (waits returns going has free : Bool)
+    → (not (waits || returns) && going && has && free) ≡ ((not (waits || false) && going && has && free) && not returns)
 out_bits true returns going has free = refl
 out_bits false true true true true = refl
 out_bits false true true true false = refl
@@ -53,15 +54,20 @@ module _ (script : Script) (keep : Bool) (S : State) (alone : IsAlone S) where
   abbrev able_with : ObjNo → Bool → Option Task → Bool
   able_with t waits task = not waits && not (is_stopped S t) && is_some task && is_none (wanted_holder S.synchronization.nano t)
 
-  row-able : (t : ObjNo) (row : Option ThreadRow) (task : Option Task) → able_with t (is_waiting_row true row) task ≡ (able_with t (is_waiting_row false row) task && not (is_returning (part_of row)))
+  row-able : (t : ObjNo) (row : Option ThreadRow) (task : Option Task)
+      → able_with t (is_waiting_row true row) task
+      ≡ (able_with t (is_waiting_row false row) task && not (is_returning (part_of row)))
   row-able t None task = unless_out (not (is_stopped S t)) (is_some task) (is_none (wanted_holder S.synchronization.nano t))
-  row-able t (Some row) task = out_bits (is_wait row.waiting) (is_returning row.part) (not (is_stopped S t)) (is_some task) (is_none (wanted_holder S.synchronization.nano t))
+  row-able t (Some row) task =
+      out_bits (is_wait row.waiting) (is_returning row.part) (not (is_stopped S t)) (is_some task)
+      (is_none (wanted_holder S.synchronization.nano t))
 
   pub able-mode : (t : ObjNo) → is_able script (in_mode true keep S) t ≡ (is_able script S t && not (is_out (in_mode true keep S) t))
   able-mode t =
       ap (able_with t (is_waiting_row true (thread_of S t))) (task-mode script keep S t)
       ∙ row-able t (thread_of S t) (task_of script S t)
-      ∙ ap (λ (shared : Bool). able_with t (is_waiting_row shared (thread_of S t)) (task_of script S t) && not (is_returning (part_of (thread_of S t)))) (sym shared-not)
+      ∙ ap (λ (shared : Bool). able_with t (is_waiting_row shared (thread_of S t)) (task_of script S t) && not
+      (is_returning (part_of (thread_of S t)))) (sym shared-not)
 
   may-of : (able out : Bool) → able ≡ true → ((able && not out) || out) ≡ true
   may-of true true e = refl
@@ -76,7 +82,8 @@ module _ (script : Script) (keep : Bool) (S : State) (alone : IsAlone S) where
   may-mode : (t : ObjNo) → may_act script S t ≡ true → may_act script (in_mode true keep S) t ≡ true
   may-mode t may =
       ap (λ (able : Bool). able || is_out (in_mode true keep S) t) (able-mode t)
-      ∙ may-of (is_able script S t) (is_out (in_mode true keep S) t) (able-of (is_able script S t) S.mode.shared (is_returning (part_of (thread_of S t))) shared-not may)
+      ∙ may-of (is_able script S t) (is_out (in_mode true keep S) t)
+      (able-of (is_able script S t) S.mode.shared (is_returning (part_of (thread_of S t))) shared-not may)
 
   -- so it may act
   pub can-mode : (actor : Actor) → CanAct script S actor → CanAct script (in_mode true keep S) actor
@@ -93,40 +100,54 @@ module _ (script : Script) (keep : Bool) (S : State) (alone : IsAlone S) where
   abbrev made : Decision → List Effect → State → Transition
   made d effects T = record { state = T; outcome = record { step = d.step; effects = effects; answer = d.answer } }
 
-  carried-mode : (t : ObjNo) (d e : Decision) → e ≡ d → TellsNoDeath keep (tell t d.moves S) → carried_out script t (in_mode true keep S) e ≡ in_mode_too (carried_out script t S d)
+  carried-mode : (t : ObjNo) (d e : Decision) → e ≡ d → TellsNoDeath keep (tell t d.moves S)
+      → carried_out script t (in_mode true keep S) e ≡ in_mode_too (carried_out script t S d)
   carried-mode t d e same silent =
       ap (carried_out script t (in_mode true keep S)) same
       ∙ ap (made d (tell t d.moves (in_mode true keep S))) (perform-mode keep t d.moves S alone silent)
       ∙ ap (λ (effects : List Effect). made d effects (in_mode true keep (perform t d.moves S))) (tell-mode keep t d.moves S alone silent)
 
-  thread-mode : (t : ObjNo) → may_act script S t ≡ true → TellsNoDeath keep (tell t (decision_of script S t).moves S) → decision_of script (in_mode true keep S) t ≡ decision_of script S t
+  thread-mode : (t : ObjNo) → may_act script S t ≡ true → TellsNoDeath keep (tell t (decision_of script S t).moves S)
+      → decision_of script (in_mode true keep S) t ≡ decision_of script S t
   thread-mode t may silent =
       let T = in_mode true keep S in
-      let acts : decision_of script S t ≡ decision_of_row script S t (thread_of S t) (task_of script S t) = ap (λ (able : Bool). decision_where script able S t (task_of script S t)) may in
+      let acts : decision_of script S t ≡ decision_of_row script S t (thread_of S t) (task_of script S t) =
+      ap (λ (able : Bool). decision_where script able S t (task_of script S t)) may in
       ap (λ (able : Bool). decision_where script able T t (task_of script T t)) (may-mode t may)
       ∙ ap (decision_of_row script T t (thread_of S t)) (task-mode script keep S t)
       ∙ decided-mode script keep t S (thread_of S t) (task_of script S t) alone (subst (λ (d : Decision). TellsNoDeath keep (tell t d.moves S)) acts silent)
       ∙ sym acts
 
-  act-mode : (t : ObjNo) → may_act script S t ≡ true → TellsNoDeath keep (act script S t).outcome.effects → act script (in_mode true keep S) t ≡ in_mode_too (act script S t)
+  act-mode : (t : ObjNo) → may_act script S t ≡ true → TellsNoDeath keep (act script S t).outcome.effects
+      → act script (in_mode true keep S) t ≡ in_mode_too (act script S t)
   unfolding act
   act-mode t may silent = carried-mode t (decision_of script S t) (decision_of script (in_mode true keep S) t) (thread-mode t may silent) silent
 
-  done-mode : (plan : Plan) → TellsNoDeath keep (done_by script S plan).outcome.effects → done_by script (in_mode true keep S) plan ≡ in_mode_too (done_by script S plan)
-  done-mode plan silent = carried-mode supervisor (decision_by script supervisor S plan) (decision_by script supervisor (in_mode true keep S) plan) (plan-mode script keep supervisor S plan alone silent) silent
+  done-mode : (plan : Plan) → TellsNoDeath keep (done_by script S plan).outcome.effects
+      → done_by script (in_mode true keep S) plan ≡ in_mode_too (done_by script S plan)
+  done-mode plan silent =
+      carried-mode supervisor (decision_by script supervisor S plan)
+      (decision_by script supervisor (in_mode true keep S) plan)
+      (plan-mode script keep supervisor S plan alone silent) silent
 
-  interrupt-mode : (k : ℕ) → TellsNoDeath keep (interrupt script S k).outcome.effects → interrupt script (in_mode true keep S) k ≡ in_mode_too (interrupt script S k)
+  interrupt-mode : (k : ℕ) → TellsNoDeath keep (interrupt script S k).outcome.effects
+      → interrupt script (in_mode true keep S) k ≡ in_mode_too (interrupt script S k)
   unfolding interrupt
   interrupt-mode k silent = done-mode (Runs (Interrupt k)) silent
 
   immediate-mode : TellsNoDeath keep (immediate script S).outcome.effects → immediate script (in_mode true keep S) ≡ in_mode_too (immediate script S)
   unfolding immediate
-  immediate-mode silent = ap (done_by script (in_mode true keep S)) plans ∙ done-mode (immediate_plan script S (next_immediate S.synchronization.deferred)) silent
+  immediate-mode silent =
+      ap (done_by script (in_mode true keep S)) plans
+      ∙ done-mode (immediate_plan script S (next_immediate S.synchronization.deferred)) silent
     where
-      plans : immediate_plan script (in_mode true keep S) (next_immediate S.synchronization.deferred) ≡ immediate_plan script S (next_immediate S.synchronization.deferred)
+      plans : immediate_plan script (in_mode true keep S) (next_immediate S.synchronization.deferred)
+          ≡ immediate_plan script S (next_immediate S.synchronization.deferred)
       plans = refl
 
-  pub transition-mode : (actor : Actor) → CanAct script S actor → TellsNoDeath keep (transition script S actor).outcome.effects → transition script (in_mode true keep S) actor ≡ in_mode_too (transition script S actor)
+  pub transition-mode : (actor : Actor) → CanAct script S actor
+      → TellsNoDeath keep (transition script S actor).outcome.effects
+      → transition script (in_mode true keep S) actor ≡ in_mode_too (transition script S actor)
   transition-mode (Thread t) can silent = act-mode t can silent
   transition-mode (Irq k) can silent = interrupt-mode k silent
   transition-mode Idfc can silent = immediate-mode silent

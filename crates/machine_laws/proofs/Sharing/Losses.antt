@@ -44,16 +44,20 @@ moves_of script S Tick = []
 moves_of script S Idle = []
 
 -- what a thread does comes back exactly in a step that is a return, and gives one reference up or is a return, at most
-comes-action : (script : Script) (S : State) (t : ObjNo) → IsShaped script → AreRows script S → total coming_bit (decision_of script S t).moves ≡ return_bit (decision_of script S t).step
+comes-action : (script : Script) (S : State) (t : ObjNo) → IsShaped script → AreRows script S
+    → total coming_bit (decision_of script S t).moves ≡ return_bit (decision_of script S t).step
 comes-action script S t shaped rows = (regular-action script S t shaped rows).1.comes
 
 pay-stays : (what : Owed) → total coming_bit (Pay what ∷ []) ≡ 0
 pay-stays what = refl
 
-once-action : (script : Script) (S : State) (t : ObjNo) → IsShaped script → AreRows script S → total close_bit (decision_of script S t).moves + total coming_bit (decision_of script S t).moves ≤ 1
+once-action : (script : Script) (S : State) (t : ObjNo) → IsShaped script → AreRows script S
+    → total close_bit (decision_of script S t).moves + total coming_bit (decision_of script S t).moves ≤ 1
 once-action script S t shaped rows = elim (fits-action script S t shaped rows) as (λ _. total close_bit d.moves + total coming_bit d.moves ≤ 1) [
   | inl fits ↦ by (is_return d.step) refl fits
-  | inr pays ↦ (let few = closes-few script S t shaped rows in let none : total coming_bit d.moves ≡ 0 = ap (total coming_bit) pays.moves ∙ pay-stays pays.what in omega arith)
+  | inr pays ↦
+      (let few = closes-few script S t shaped rows in
+      let none : total coming_bit d.moves ≡ 0 = ap (total coming_bit) pays.moves ∙ pay-stays pays.what in omega arith)
 ]
   where
     d : Decision
@@ -80,10 +84,13 @@ pub keeps-interrupt : (script : Script) (S : State) (k : ℕ) → IsShaped scrip
 keeps-interrupt script S k shaped rows = loses-light script S supervisor _ 4 (light-interrupt script S k shaped rows)
 
 pub keeps-immediate : (script : Script) (S : State) → IsShaped script → AreRows script S → LosesNone (moves_of script S IdfcActor)
-keeps-immediate script S shaped rows = loses-light script S supervisor _ 4 (light-immediate script S (next_immediate S.synchronization.deferred) shaped rows refl)
+keeps-immediate script S shaped rows =
+    loses-light script S supervisor _ 4 (light-immediate script S
+    (next_immediate S.synchronization.deferred) shaped rows refl)
 
 -- so each actor does one of the two at most
-pub once-next : (script : Script) (S : State) (actor : Actor) → IsShaped script → AreRows script S → total close_bit (moves_of script S actor) + total coming_bit (moves_of script S actor) ≤ 1
+pub once-next : (script : Script) (S : State) (actor : Actor) → IsShaped script → AreRows script S
+    → total close_bit (moves_of script S actor) + total coming_bit (moves_of script S actor) ≤ 1
 once-next script S (Thread t) shaped rows = once-action script S t shaped rows
 once-next script S (Irq k) shaped rows = let keeps = keeps-interrupt script S k shaped rows in let none = keeps.none in let stays = keeps.stays in omega arith
 once-next script S IdfcActor shaped rows = let keeps = keeps-immediate script S shaped rows in let none = keeps.none in let stays = keeps.stays in omega arith
@@ -104,19 +111,23 @@ item-stays script S None = refl
 item-stays script S (Some (Idfc call)) = run-stays (slice_get script.idfcs call)
 item-stays script S (Some (MoveOf dfc)) = move-stays (slice_get script.dfcs dfc)
 
-comes-act : (script : Script) (S : State) (t : ObjNo) → IsShaped script → AreRows script S → total coming_bit (decision_of script S t).moves ≡ return_bit (act script S t).outcome.step
+comes-act : (script : Script) (S : State) (t : ObjNo) → IsShaped script → AreRows script S
+    → total coming_bit (decision_of script S t).moves ≡ return_bit (act script S t).outcome.step
 unfolding act
 comes-act script S t shaped rows = comes-action script S t shaped rows
 
-comes-interrupt : (script : Script) (S : State) (k : ℕ) → IsShaped script → AreRows script S → total coming_bit (moves_of script S (Irq k)) ≡ return_bit (interrupt script S k).outcome.step
+comes-interrupt : (script : Script) (S : State) (k : ℕ) → IsShaped script → AreRows script S
+    → total coming_bit (moves_of script S (Irq k)) ≡ return_bit (interrupt script S k).outcome.step
 unfolding interrupt
 comes-interrupt script S k shaped rows = (keeps-interrupt script S k shaped rows).stays
 
-comes-immediate : (script : Script) (S : State) → IsShaped script → AreRows script S → total coming_bit (moves_of script S IdfcActor) ≡ return_bit (immediate script S).outcome.step
+comes-immediate : (script : Script) (S : State) → IsShaped script → AreRows script S
+    → total coming_bit (moves_of script S IdfcActor) ≡ return_bit (immediate script S).outcome.step
 unfolding immediate
 comes-immediate script S shaped rows = (keeps-immediate script S shaped rows).stays ∙ sym (item-stays script S (next_immediate S.synchronization.deferred))
 
-pub comes-next : (script : Script) (S : State) (actor : Actor) → IsShaped script → AreRows script S → total coming_bit (moves_of script S actor) ≡ return_bit (transition script S actor).outcome.step
+pub comes-next : (script : Script) (S : State) (actor : Actor) → IsShaped script → AreRows script S
+    → total coming_bit (moves_of script S actor) ≡ return_bit (transition script S actor).outcome.step
 comes-next script S (Thread t) shaped rows = comes-act script S t shaped rows
 comes-next script S (Irq k) shaped rows = comes-interrupt script S k shaped rows
 comes-next script S IdfcActor shaped rows = comes-immediate script S shaped rows

@@ -47,14 +47,17 @@ pub silent-rest : (keep : Bool) (xs ys : List Effect) → TellsNoDeath keep (xs 
 silent-rest keep xs ys silent kept = deathless-rest xs ys (silent kept)
 
 -- an object dies in both modes or in none
-dies-both : (one kept sought keep out : Bool) → kept ≡ false → (keep ≡ true → (one && not (kept && sought)) ≡ false) → (one && not (keep && out)) ≡ (one && not (kept && sought))
+dies-both : (one kept sought keep out : Bool) → kept ≡ false → (keep ≡ true → (one && not (kept && sought)) ≡ false)
+    → (one && not (keep && out)) ≡ (one && not (kept && sought))
 dies-both false kept sought keep out alone none = refl
 dies-both true true sought keep out alone none = absurd (cc)
 dies-both true false sought true out alone none = absurd (let dying = none refl in cc)
 dies-both true false sought false out alone none = refl
 
 dies-mode : (keep : Bool) (S : State) (o : ObjNo) → IsAlone S → (keep ≡ true → dies S o ≡ false) → dies (in_mode true keep S) o ≡ dies S o
-dies-mode keep S o alone none = dies-both (count_of S o == 1) S.mode.keep (nat_lt 0 (outs_of S o)) keep (nat_lt 0 (outs_of (in_mode true keep S) o)) (ap (λ (m : Mode). m.keep) alone) none
+dies-mode keep S o alone none =
+    dies-both (count_of S o == 1) S.mode.keep (nat_lt 0 (outs_of S o)) keep (nat_lt 0 (outs_of (in_mode true keep S) o))
+    (ap (λ (m : Mode). m.keep) alone) none
 
 closed-silent : (dying : Bool) (h : Holder) (o : ObjNo) → is_deathless (closed_effects dying h o) ≡ true → dying ≡ false
 closed-silent true h o e = absurd (cc)
@@ -62,26 +65,33 @@ closed-silent false h o e = refl
 
 -- a move tells the same, and makes the same change
 told-mode : (keep : Bool) (m : Move) (S : State) → IsAlone S → TellsNoDeath keep (told m S) → told m (in_mode true keep S) ≡ told m S
-told-mode keep (Lose h o) S alone silent = ap (λ (d : Bool). closed_effects d h o) (dies-mode keep S o alone (λ kept. closed-silent (dies S o) h o (silent kept)))
-told-mode keep (Pay (Close h o)) S alone silent = ap (λ (d : Bool). closed_effects d h o) (dies-mode keep S o alone (λ kept. closed-silent (dies S o) h o (silent kept)))
+told-mode keep (Lose h o) S alone silent =
+    ap (λ (d : Bool). closed_effects d h o)
+    (dies-mode keep S o alone (λ kept. closed-silent (dies S o) h o (silent kept)))
+told-mode keep (Pay (Close h o)) S alone silent =
+    ap (λ (d : Bool). closed_effects d h o)
+    (dies-mode keep S o alone (λ kept. closed-silent (dies S o) h o (silent kept)))
 told-mode keep (Pay (Sweep o)) S alone silent = refl
 told-mode keep _ S alone silent = refl
 
-moved-mode : (keep : Bool) (t : ObjNo) (m : Move) (S : State) → IsAlone S → TellsNoDeath keep (told m S) → moved t m (in_mode true keep S) ≡ in_mode true keep (moved t m S)
+moved-mode : (keep : Bool) (t : ObjNo) (m : Move) (S : State) → IsAlone S → TellsNoDeath keep (told m S)
+    → moved t m (in_mode true keep S) ≡ in_mode true keep (moved t m S)
 moved-mode keep t (Lose h o) S alone silent = rw (dies-mode keep S o alone (λ kept. closed-silent (dies S o) h o (silent kept))) refl
 moved-mode keep t (Pay (Close h o)) S alone silent = rw (dies-mode keep S o alone (λ kept. closed-silent (dies S o) h o (silent kept))) refl
 moved-mode keep t (Pay (Sweep o)) S alone silent = refl
 moved-mode keep t _ S alone silent = refl
 
 -- so do several moves
-pub perform-mode : (keep : Bool) (t : ObjNo) (ms : List Move) (S : State) → IsAlone S → TellsNoDeath keep (tell t ms S) → perform t ms (in_mode true keep S) ≡ in_mode true keep (perform t ms S)
+pub perform-mode : (keep : Bool) (t : ObjNo) (ms : List Move) (S : State) → IsAlone S → TellsNoDeath keep (tell t ms S)
+    → perform t ms (in_mode true keep S) ≡ in_mode true keep (perform t ms S)
 perform-mode keep t [] S alone silent = refl
 perform-mode keep t (m ∷ ms) S alone silent =
     let T = moved t m S in
     ap (perform t ms) (moved-mode keep t m S alone (silent-front keep (told m S) (tell t ms T) silent))
     ∙ perform-mode keep t ms T (mode-moved S t m ∙ alone) (silent-rest keep (told m S) (tell t ms T) silent)
 
-pub tell-mode : (keep : Bool) (t : ObjNo) (ms : List Move) (S : State) → IsAlone S → TellsNoDeath keep (tell t ms S) → tell t ms (in_mode true keep S) ≡ tell t ms S
+pub tell-mode : (keep : Bool) (t : ObjNo) (ms : List Move) (S : State) → IsAlone S → TellsNoDeath keep (tell t ms S)
+    → tell t ms (in_mode true keep S) ≡ tell t ms S
 tell-mode keep t [] S alone silent = refl
 tell-mode keep t (m ∷ ms) S alone silent =
     let T = moved t m S in
@@ -93,4 +103,6 @@ tell-mode keep t (m ∷ ms) S alone silent =
 -- what moves tell, and others behind them
 pub tell-both : (t : ObjNo) (xs ys : List Move) (S : State) → tell t (xs ++ ys) S ≡ tell t xs S ++ tell t ys (perform t xs S)
 tell-both t [] ys S = refl
-tell-both t (m ∷ xs) ys S = ap (λ (l : List Effect). told m S ++ l) (tell-both t xs ys (moved t m S)) ∙ sym (append_assoc (told m S) (tell t xs (moved t m S)) (tell t ys (perform t xs (moved t m S))))
+tell-both t (m ∷ xs) ys S =
+    ap (λ (l : List Effect). told m S ++ l) (tell-both t xs ys (moved t m S))
+    ∙ sym (append_assoc (told m S) (tell t xs (moved t m S)) (tell t ys (perform t xs (moved t m S))))

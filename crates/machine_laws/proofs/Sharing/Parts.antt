@@ -38,7 +38,8 @@ abbrev pub IsReturner : State → Actor → Type 0
 IsReturner S (Thread t) = is_returning (part_of (thread_of S t)) ≡ true
 IsReturner S _ = ⊥
 
-act-returns : (script : Script) (S : State) (t : ObjNo) → IsShaped script → AreRows script S → is_return (act script S t).outcome.step ≡ true → is_returning (part_of (thread_of S t)) ≡ true
+act-returns : (script : Script) (S : State) (t : ObjNo) → IsShaped script → AreRows script S
+    → is_return (act script S t).outcome.step ≡ true → is_returning (part_of (thread_of S t)) ≡ true
 unfolding act
 act-returns script S t shaped rows is = ((regular-action script S t shaped rows).1.returns is).0
 
@@ -46,10 +47,15 @@ no-return : (b : Bool) (n : ℕ) → n ≡ 0 → n ≡ (if b then 1 else 0) → 
 no-return true n none same is = absurd (omega arith)
 no-return false n none same is = absurd (cc)
 
-pub returns-out : (script : Script) (S : State) (actor : Actor) → IsShaped script → AreRows script S → is_return (transition script S actor).outcome.step ≡ true → IsReturner S actor
+pub returns-out : (script : Script) (S : State) (actor : Actor) → IsShaped script → AreRows script S
+    → is_return (transition script S actor).outcome.step ≡ true → IsReturner S actor
 returns-out script S (Thread t) shaped rows is = act-returns script S t shaped rows is
-returns-out script S (Irq k) shaped rows is = no-return (is_return (interrupt script S k).outcome.step) _ (keeps-interrupt script S k shaped rows).stays (comes-next script S (Irq k) shaped rows) is
-returns-out script S Idfc shaped rows is = no-return (is_return (immediate script S).outcome.step) _ (keeps-immediate script S shaped rows).stays (comes-next script S Idfc shaped rows) is
+returns-out script S (Irq k) shaped rows is =
+    no-return (is_return (interrupt script S k).outcome.step) _ (keeps-interrupt script S k shaped rows).stays
+    (comes-next script S (Irq k) shaped rows) is
+returns-out script S Idfc shaped rows is =
+    no-return (is_return (immediate script S).outcome.step) _ (keeps-immediate script S shaped rows).stays
+    (comes-next script S Idfc shaped rows) is
 returns-out script S Tick shaped rows is = absurd (cc)
 returns-out script S Idle shaped rows is = absurd (cc)
 
@@ -74,7 +80,8 @@ able-back script S t shared able =
     by (Some row) still = back-of (is_wait row.waiting) S.mode.shared (is_returning row.part) shared still
 
 -- whatever holds of each that may be chosen
-pub of-chosen : (script : Script) (S : State) (qs : List ObjNo) (P : Actor → Type 0) → IsWellFormed script S qs → P Idfc → P Idle → ((u : ObjNo) → is_able script S u ≡ true → P (Thread u)) → P (chosen S qs)
+pub of-chosen : (script : Script) (S : State) (qs : List ObjNo) (P : Actor → Type 0) → IsWellFormed script S qs → P Idfc
+    → P Idle → ((u : ObjNo) → is_able script S u ≡ true → P (Thread u)) → P (chosen S qs)
 of-chosen script S qs P formed item idle able = by (next_immediate S.synchronization.deferred)
   where
     thread : (found : Option ObjNo) → first_ready S qs ≡ found → P (actor_of (option_map (in_place_of S.synchronization.nano) found))
@@ -86,17 +93,20 @@ of-chosen script S qs P formed item idle able = by (next_immediate S.synchroniza
     by None = thread (first_ready S qs) refl
 
 -- so the entry of a slot is no return
-pub unless-returner : (script : Script) (S : State) (actor : Actor) → IsShaped script → AreRows script S → (IsReturner S actor → ⊥) → is_return (transition script S actor).outcome.step ≡ false
+pub unless-returner : (script : Script) (S : State) (actor : Actor) → IsShaped script → AreRows script S
+    → (IsReturner S actor → ⊥) → is_return (transition script S actor).outcome.step ≡ false
 unless-returner script S actor shaped rows none = by (is_return (transition script S actor).outcome.step) refl
   where
     by : (b : Bool) → is_return (transition script S actor).outcome.step ≡ b → b ≡ false
     by true e = absurd (none (returns-out script S actor shaped rows e))
     by false e = refl
 
-pub slot-stays : (script : Script) (S : State) (qs : List ObjNo) (s : Slot) → IsShaped script → S.mode.shared ≡ true → IsWellFormed script S qs → is_return (transition script S (slot_actor S qs s)).outcome.step ≡ false
+pub slot-stays : (script : Script) (S : State) (qs : List ObjNo) (s : Slot) → IsShaped script → S.mode.shared ≡ true
+    → IsWellFormed script S qs → is_return (transition script S (slot_actor S qs s)).outcome.step ≡ false
 slot-stays script S qs slot.Go shaped shared formed =
     unless-returner script S (chosen S qs) shaped formed.rows
-    (of-chosen script S qs (λ (actor : Actor). IsReturner S actor → ⊥) formed (λ none. none) (λ none. none) (λ u able returns. let back = able-back script S u shared able in cc))
+    (of-chosen script S qs (λ (actor : Actor). IsReturner S actor → ⊥) formed (λ none. none) (λ none. none)
+    (λ u able returns. let back = able-back script S u shared able in cc))
 slot-stays script S qs (slot.Irq k) shaped shared formed = unless-returner script S (Irq k) shaped formed.rows (λ none. none)
 slot-stays script S qs slot.Tick shaped shared formed = refl
 
@@ -121,17 +131,26 @@ behind-drop slots (e ∷ es) = behind-drop (slots_left (is_return e.step) slots)
     by true = let none : slots_taken es ≡ 0 + slots_taken es = omega arith in ap (λ (k : ℕ). drop k slots) none
     by false = drop-behind (slots_taken es) slots
 
-takes-push : (script : Script) (S : State) (qs : List ObjNo) (slots : List Slot) (es : List Entry) (e : Entry) → TakesSlots script S qs slots es → IsOfSlot (is_return e.step) (after_from script S es) (arrived_from script S qs es) (slots_behind slots es) e.actor → TakesSlots script S qs slots (es ++ e ∷ [])
+takes-push : (script : Script) (S : State) (qs : List ObjNo) (slots : List Slot) (es : List Entry) (e : Entry)
+    → TakesSlots script S qs slots es
+    → IsOfSlot (is_return e.step) (after_from script S es) (arrived_from script S qs es) (slots_behind slots es) e.actor
+    → TakesSlots script S qs slots (es ++ e ∷ [])
 takes-push script S qs slots [] e takes next = (next, tt)
-takes-push script S qs slots (x ∷ xs) e takes next = (takes.0, takes-push script (next_by script S x) (arrived_by_entry script S x qs) (slots_left (is_return x.step) slots) xs e takes.1 next)
+takes-push script S qs slots (x ∷ xs) e takes next = (
+  takes.0,
+  takes-push script (next_by script S x) (arrived_by_entry script S x qs)
+      (slots_left (is_return x.step) slots) xs e takes.1 next,
+)
 
 -- the first of these is the slot at that place
-may-take : (S : State) (qs : List ObjNo) (slots : List Slot) (n : ℕ) (s : Slot) (actor : Actor) → slice_get slots n ≡ Some s → actor ≡ slot_actor S qs s → MayTakeSlot S qs (drop n slots) actor
+may-take : (S : State) (qs : List ObjNo) (slots : List Slot) (n : ℕ) (s : Slot) (actor : Actor)
+    → slice_get slots n ≡ Some s → actor ≡ slot_actor S qs s → MayTakeSlot S qs (drop n slots) actor
 may-take S qs [] n s actor at is = absurd (cc)
 may-take S qs (x ∷ slots) zero s actor at is = let same : x ≡ s = cc in is ∙ ap (slot_actor S qs) (sym same)
 may-take S qs (x ∷ slots) (suc n) s actor at is = may-take S qs slots n s actor at is
 
-of-slot : (b : Bool) (S : State) (qs : List ObjNo) (slots : List Slot) (actor : Actor) → (b ≡ false → MayTakeSlot S qs slots actor) → IsOfSlot b S qs slots actor
+of-slot : (b : Bool) (S : State) (qs : List ObjNo) (slots : List Slot) (actor : Actor)
+    → (b ≡ false → MayTakeSlot S qs slots actor) → IsOfSlot b S qs slots actor
 of-slot true S qs slots actor takes = tt
 of-slot false S qs slots actor takes = takes refl
 
@@ -141,7 +160,8 @@ part-none script = record { shared = tt; slots = tt }
 
 -- a part goes on by the entry of the next slot, or by a return
 pub part-push : (script : Script) (history : List Entry) (e : Entry) → IsSharedPart script history
-    → (is_return e.step ≡ false → (s : Slot) × (slice_get script.slots (slots_taken history) ≡ Some s) × (e.actor ≡ slot_actor (after_in true script history) (arrived_in true script history) s))
+    → (is_return e.step ≡ false → (s : Slot) × (slice_get script.slots (slots_taken history) ≡ Some s)
+    × (e.actor ≡ slot_actor (after_in true script history) (arrived_in true script history) s))
     → IsNext script (after_in true script history) (length history + 1) e → IsSharedPart script (history ++ e ∷ [])
 part-push script history e part takes next =
     let S = after_in true script history in
@@ -150,7 +170,8 @@ part-push script history e part takes next =
       slots = takes-push script (boot_in true script) (ready_at_boot script) script.slots history e part.slots
           (of-slot (is_return e.step) S qs (slots_behind script.slots history) e.actor (λ stays.
           let s = takes stays in
-          subst (λ (slots : List Slot). MayTakeSlot S qs slots e.actor) (sym (behind-drop script.slots history)) (may-take S qs script.slots (slots_taken history) s.0 e.actor s.1 s.2)));
+          subst (λ (slots : List Slot). MayTakeSlot S qs slots e.actor) (sym (behind-drop script.slots history))
+          (may-take S qs script.slots (slots_taken history) s.0 e.actor s.1 s.2)));
     }
 
 -- and takes one slot more by what is no return

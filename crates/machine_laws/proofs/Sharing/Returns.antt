@@ -37,7 +37,8 @@ is_back_next S (Thread t) = is_returning (part_of (thread_of S t))
 is_back_next S _ = false
 
 -- the step of a return
-step-back : (t o : ObjNo) (word : Word) (next : Part) (opens live : Bool) → is_return (if opens then one_move (Of word part.Return) (Open t o next) else miss t word o live).step ≡ true
+step-back : (t o : ObjNo) (word : Word) (next : Part) (opens live : Bool)
+    → is_return (if opens then one_move (Of word part.Return) (Open t o next) else miss t word o live).step ≡ true
 step-back t o word next true live = refl
 step-back t o word next false true = refl
 step-back t o word next false false = refl
@@ -45,27 +46,37 @@ step-back t o word next false false = refl
 step-return : (S : State) (t : ObjNo) (row : ThreadRow) (word : Word) (next : Part) → is_return (return_to S t row word next).step ≡ true
 step-return S t row word next = step-back t (found_object row) word next (is_open (object_of S (found_object row))) (is_live row.stage)
 
-module _ (script : Script) (S : State) (t : ObjNo) (at_finds : (row : ThreadRow) → thread_of S t ≡ Some row → is_returning row.part ≡ true → finds_by_name (instruction script row) ≡ true) where
-  task-return : (row : ThreadRow) (returns : Bool) (at : Option Instr) (other : Option Task) → returns ≡ true → finds_by_name at ≡ true → is_return (decision_of_row script S t (Some row) (return_or returns at other)).step ≡ true
+module _ (script : Script) (S : State) (t : ObjNo)
+    (at_finds : (row : ThreadRow) → thread_of S t ≡ Some row → is_returning row.part ≡ true
+    → finds_by_name (instruction script row) ≡ true) where
+  task-return : (row : ThreadRow) (returns : Bool) (at : Option Instr) (other : Option Task) → returns ≡ true
+      → finds_by_name at ≡ true
+      → is_return (decision_of_row script S t (Some row) (return_or returns at other)).step ≡ true
   task-return row true (Some (instr.Open kind name x)) other is finds = step-return S t row word.Open part.Do
   task-return row true (Some (instr.Connect name slots x)) other is finds = step-return S t row word.Connect part.Make
   task-return row true (Some _) other is finds = absurd (cc)
   task-return row true None other is finds = absurd (cc)
   task-return row false at other is finds = absurd (cc)
 
-  row-return : (row : Option ThreadRow) → thread_of S t ≡ row → is_returning (part_of row) ≡ true → is_return (decision_of_row script S t row (task_of_row script S t row)).step ≡ true
+  row-return : (row : Option ThreadRow) → thread_of S t ≡ row → is_returning (part_of row) ≡ true
+      → is_return (decision_of_row script S t row (task_of_row script S t row)).step ≡ true
   row-return None is returns = absurd (cc)
   row-return (Some row) is returns = task-return row (is_returning row.part) (instruction script row) _ returns (at_finds row is returns)
 
   decision-return : may_act script S t ≡ true → is_returning (part_of (thread_of S t)) ≡ true → is_return (decision_of script S t).step ≡ true
-  decision-return may returns = ap (λ (able : Bool). is_return (decision_where script able S t (task_of script S t)).step) may ∙ row-return (thread_of S t) refl returns
+  decision-return may returns =
+      ap (λ (able : Bool). is_return (decision_where script able S t (task_of script S t)).step) may
+      ∙ row-return (thread_of S t) refl returns
 
   act-return : may_act script S t ≡ true → is_returning (part_of (thread_of S t)) ≡ true → is_return (act script S t).outcome.step ≡ true
   unfolding act
   act-return may returns = decision-return may returns
 
 -- an action is a return exactly if its actor is such a thread, if those are at instructions that find
-pub returns-exactly : (script : Script) (S : State) (actor : Actor) → IsShaped script → AreRows script S → ((t : ObjNo) (row : ThreadRow) → thread_of S t ≡ Some row → is_returning row.part ≡ true → finds_by_name (instruction script row) ≡ true) → CanAct script S actor
+pub returns-exactly : (script : Script) (S : State) (actor : Actor) → IsShaped script → AreRows script S
+    → ((t : ObjNo) (row : ThreadRow) → thread_of S t ≡ Some row → is_returning row.part ≡ true
+    → finds_by_name (instruction script row) ≡ true)
+    → CanAct script S actor
     → is_return (transition script S actor).outcome.step ≡ is_back_next S actor
 returns-exactly script S (Thread t) shaped rows at_finds can = by (is_returning (part_of (thread_of S t))) refl
   where

@@ -39,29 +39,39 @@ turning_bit (Miss u o) = 1
 turning_bit _ = 0
 
 -- a change of one thread's row
-seeks-map : (x : Option ThreadRow) (f : ThreadRow → ThreadRow) (o : ObjNo) → ((row : ThreadRow) → x ≡ Some row → KeepsSeeks f row) → seeks o (option_map f x) ≡ seeks o x
+seeks-map : (x : Option ThreadRow) (f : ThreadRow → ThreadRow) (o : ObjNo)
+    → ((row : ThreadRow) → x ≡ Some row → KeepsSeeks f row) → seeks o (option_map f x) ≡ seeks o x
 seeks-map None f o keeps = refl
 seeks-map (Some row) f o keeps = keeps row refl o
 
-seeks-with : (threads : List (Option ThreadRow)) (v : ObjNo) (f : ThreadRow → ThreadRow) → ((row : ThreadRow) → get_or threads v.0 None ≡ Some row → KeepsSeeks f row) → (u o : ObjNo) → seeks o (get_or (with_row threads v f) u.0 None) ≡ seeks o (get_or threads u.0 None)
+seeks-with : (threads : List (Option ThreadRow)) (v : ObjNo) (f : ThreadRow → ThreadRow)
+    → ((row : ThreadRow) → get_or threads v.0 None ≡ Some row → KeepsSeeks f row) → (u o : ObjNo)
+    → seeks o (get_or (with_row threads v f) u.0 None) ≡ seeks o (get_or threads u.0 None)
 seeks-with threads v f keeps u o = elim (cases_eq v.0 u.0) as (λ _. seeks o (get_or (with_row threads v f) u.0 None) ≡ seeks o (get_or threads u.0 None)) [
   | inl at ↦ ap (seeks o) (row-here threads v f u.0 at) ∙ (seeks-map (get_or threads v.0 None) f o keeps ∙ ap (λ (n : ℕ). seeks o (get_or threads n None)) at)
   | inr apart ↦ ap (seeks o) (row-other threads v f u.0 apart)
 ]
 
 -- a change of the acting thread's own row leaves another thread's
-seeks-own : (threads : List (Option ThreadRow)) (t v : ObjNo) (f : ThreadRow → ThreadRow) (u o : ObjNo) → v ≡ t → (t.0 ≡ u.0 → ◌≡◌ {A = ℕ} 1 0) → seeks o (get_or (with_row threads v f) u.0 None) ≡ seeks o (get_or threads u.0 None)
-seeks-own threads t v f u o own stays = ap (seeks o) (row-other threads v f u.0 (λ at. let none = stays (sym (ap (λ (x : ObjNo). x.0) own) ∙ at) in absurd (omega arith)))
+seeks-own : (threads : List (Option ThreadRow)) (t v : ObjNo) (f : ThreadRow → ThreadRow) (u o : ObjNo) → v ≡ t
+    → (t.0 ≡ u.0 → ◌≡◌ {A = ℕ} 1 0)
+    → seeks o (get_or (with_row threads v f) u.0 None) ≡ seeks o (get_or threads u.0 None)
+seeks-own threads t v f u o own stays =
+    ap (seeks o) (row-other threads v f u.0
+    (λ at. let none = stays (sym (ap (λ (x : ObjNo). x.0) own) ∙ at) in absurd (omega arith)))
 
-seeks-gained : (h : Holder) (x : ObjNo) (threads : List (Option ThreadRow)) (u o : ObjNo) → seeks o (get_or (threads_gain h x threads) u.0 None) ≡ seeks o (get_or threads u.0 None)
+seeks-gained : (h : Holder) (x : ObjNo) (threads : List (Option ThreadRow)) (u o : ObjNo)
+    → seeks o (get_or (threads_gain h x threads) u.0 None) ≡ seeks o (get_or threads u.0 None)
 seeks-gained (Temp v) x threads u o = seeks-with threads v (with_use (Some x)) (λ row is p. refl) u o
 seeks-gained _ x threads u o = refl
 
-seeks-lost : (h : Holder) (threads : List (Option ThreadRow)) (u o : ObjNo) → seeks o (get_or (threads_lose h threads) u.0 None) ≡ seeks o (get_or threads u.0 None)
+seeks-lost : (h : Holder) (threads : List (Option ThreadRow)) (u o : ObjNo)
+    → seeks o (get_or (threads_lose h threads) u.0 None) ≡ seeks o (get_or threads u.0 None)
 seeks-lost (Temp v) threads u o = seeks-with threads v (with_use None) (λ row is p. refl) u o
 seeks-lost _ threads u o = refl
 
-seeks-closed : (last : Bool) (x : ObjNo) (threads : List (Option ThreadRow)) (u o : ObjNo) → seeks o (get_or (threads_closed last x threads) u.0 None) ≡ seeks o (get_or threads u.0 None)
+seeks-closed : (last : Bool) (x : ObjNo) (threads : List (Option ThreadRow)) (u o : ObjNo)
+    → seeks o (get_or (threads_closed last x threads) u.0 None) ≡ seeks o (get_or threads u.0 None)
 seeks-closed true x threads u o = seeks-with threads x unlinked (λ row is p. refl) u o
 seeks-closed false x threads u o = refl
 
@@ -72,19 +82,25 @@ seeks-death (Clean u) row o = refl
 seeks-death (Bury u) row o = refl
 
 -- what a move leaves of a thread, if it isn't by this one that the thread finds or comes back
-pub seeks-same : (script : Script) (S : State) (t : ObjNo) (m : Move) → FitsMove script t m S → (u o : ObjNo) → (t.0 ≡ u.0 → turning_bit m ≡ 0) → seeks o (thread_of (moved t m S) u) ≡ seeks o (thread_of S u)
+pub seeks-same : (script : Script) (S : State) (t : ObjNo) (m : Move) → FitsMove script t m S → (u o : ObjNo)
+    → (t.0 ≡ u.0 → turning_bit m ≡ 0) → seeks o (thread_of (moved t m S) u) ≡ seeks o (thread_of S u)
 seeks-same script S t (Make kind name h) fits u o stays = seeks-gained h (next_object S) S.references.threads u o
 seeks-same script S t (Gain h x) fits u o stays = seeks-gained h x S.references.threads u o
 seeks-same script S t (Lose h x) fits u o stays = seeks-closed (dies S x) x (threads_lose h S.references.threads) u o ∙ seeks-lost h S.references.threads u o
 seeks-same script S t (Find v x) fits u o stays = seeks-own S.references.threads t v (with_found x) u o fits.1 stays
 seeks-same script S t (Open v x part) fits u o stays = seeks-own S.references.threads t v (with_opened x part) u o fits.1 stays
 seeks-same script S t (Miss v x) fits u o stays = seeks-own S.references.threads t v with_missed u o fits.1 stays
-seeks-same script S t (GoOn v part) fits u o stays = seeks-with S.references.threads v (with_part part) (λ row is. seeks-back (with_part part) row (is_back S v row is fits.0.going) fits.0.other) u o
-seeks-same script S t (Keep v number) fits u o stays = seeks-with S.references.threads v (with_kept number) (λ row is. let back = is_back S v row is fits.0 in seeks-back (with_kept number) row back back) u o
+seeks-same script S t (GoOn v part) fits u o stays =
+    seeks-with S.references.threads v (with_part part)
+    (λ row is. seeks-back (with_part part) row (is_back S v row is fits.0.going) fits.0.other) u o
+seeks-same script S t (Keep v number) fits u o stays =
+    seeks-with S.references.threads v (with_kept number)
+    (λ row is. let back = is_back S v row is fits.0 in seeks-back (with_kept number) row back back) u o
 seeks-same script S t (Write v x value) fits u o stays = seeks-with S.references.threads v (with_register x value) (λ row is p. refl) u o
 seeks-same script S t (WriteMessage v y number) fits u o stays = seeks-with S.references.threads v (with_message y number) (λ row is p. refl) u o
 seeks-same script S t (PutDown v) fits u o stays = seeks-with S.references.threads v (with_use None) (λ row is p. refl) u o
-seeks-same script S t (Advance v) fits u o stays = seeks-with S.references.threads v advanced (λ row is. seeks-back advanced row (is_back S v row is fits.1) refl) u o
+seeks-same script S t (Advance v) fits u o stays =
+    seeks-with S.references.threads v advanced (λ row is. seeks-back advanced row (is_back S v row is fits.1) refl) u o
 seeks-same script S t (Wait v what) fits u o stays = seeks-with S.references.threads v (with_waiting what) (λ row is p. refl) u o
 seeks-same script S t (Wake v) fits u o stays = seeks-with S.references.threads v (with_waiting waiting.Nothing) (λ row is p. refl) u o
 seeks-same script S t (SetPriority v priority) fits u o stays = seeks-with S.references.threads v (with_priority priority) (λ row is p. refl) u o
@@ -104,18 +120,25 @@ owes_inside owed t what rest e = elim (cases_lt t (length owed)) as (λ _. t < l
   | inr past ↦ let none = get_or_past owed t [] past in absurd (cc)
 ]
 
-pub seeks-pay : (script : Script) (S : State) (t : ObjNo) (what : Owed) (rest : List Owed) → owed_of S t ≡ what ∷ rest → AreRows script S → (u o : ObjNo) → seeks o (thread_of (moved t (Pay what) S) u) ≡ seeks o (thread_of S u)
+pub seeks-pay : (script : Script) (S : State) (t : ObjNo) (what : Owed) (rest : List Owed) → owed_of S t ≡ what ∷ rest
+    → AreRows script S → (u o : ObjNo) → seeks o (thread_of (moved t (Pay what) S) u) ≡ seeks o (thread_of S u)
 seeks-pay script S t (Close h x) rest owes rows u o = seeks-closed (dies S x) x S.references.threads u o
 seeks-pay script S t (Sweep x) rest owes rows u o =
     let inside = owes_inside S.references.owed t.0 (Sweep x) rest owes in
     let long = rows.references.sized.duties in
-    let none = unseen (thread_of S x) o (λ row is. let over = sweep-over script S t x rest row owes (omega arith) rows is in let same_row : over.row ≡ row = (let a = over.is in cc) in ap (λ (r : ThreadRow). is_returning r.part) (sym same_row) ∙ over.spent.going) in
-    set_item (λ (y : Option ThreadRow). seeks o y ≡ seeks o (thread_of S u)) S.references.threads x.0 u.0 None None (λ at. sym (ap (λ (n : ℕ). seeks o (get_or S.references.threads n None)) at ∙ none)) refl
+    let none = unseen (thread_of S x) o (λ row is. let over = sweep-over script S t x rest row owes
+    (omega arith) rows is in let same_row : over.row ≡ row = (let a = over.is in cc) in
+    ap (λ (r : ThreadRow). is_returning r.part) (sym same_row) ∙ over.spent.going) in
+    set_item (λ (y : Option ThreadRow). seeks o y ≡ seeks o (thread_of S u)) S.references.threads x.0 u.0 None None
+    (λ at. sym (ap (λ (n : ℕ). seeks o (get_or S.references.threads n None)) at ∙ none)) refl
 
 -- who is between a find of an object and its return seeks it, and nobody else does
 seeks-one : (S : State) (u o : ObjNo) → ComesBack S u o → seeks o (thread_of S u) ≡ 1
 seeks-one S u o back =
-    ap (seeks o) back.is ∙ if_is (is_returning back.row.part) (same (found_object back.row) o) back.returns ∙ ap (λ (x : ObjNo). same x o) back.found ∙ same_self o
+    ap (seeks o) back.is
+    ∙ if_is (is_returning back.row.part) (same (found_object back.row) o) back.returns
+    ∙ ap (λ (x : ObjNo). same x o) back.found
+    ∙ same_self o
 
 one-same : (x o : ObjNo) (b : Bool) → (x.0 == o.0) ≡ b → same x o ≡ 1 → x ≡ o
 one-same x o true is one = same_object x o (eqb-true x.0 o.0 is)
@@ -126,7 +149,13 @@ seeking None o one = absurd (omega arith)
 seeking (Some row) o one = by (is_returning row.part) refl
   where
     by : (b : Bool) → is_returning row.part ≡ b → (r : ThreadRow) × (Some row ≡ Some r) × (is_returning r.part ≡ true) × (found_object r ≡ o)
-    by true is = (row, refl, is, one-same (found_object row) o ((found_object row).0 == o.0) refl (sym (if_is (is_returning row.part) (same (found_object row) o) is) ∙ one))
+    by true is = (
+      row,
+      refl,
+      is,
+      one-same (found_object row) o ((found_object row).0 == o.0) refl
+          (sym (if_is (is_returning row.part) (same (found_object row) o) is) ∙ one),
+    )
     by false is = let none : seeks o (Some row) ≡ 0 = if_not (is_returning row.part) (same (found_object row) o) is in absurd (omega arith)
 
 still-seeking : (S T : State) (u o : ObjNo) → seeks o (thread_of T u) ≡ seeks o (thread_of S u) → ComesBack S u o → ComesBack T u o
@@ -135,8 +164,11 @@ still-seeking S T u o same_seeks back =
     record { row = found.0; is = found.1; returns = found.2; found = found.3 }
 
 -- so another thread than the acting one that is out on an object stays so
-pub stays-out : (script : Script) (S : State) (t : ObjNo) (m : Move) → FitsMove script t m S → (u o : ObjNo) → (u.0 ≡ t.0 → ⊥) → ComesBack S u o → ComesBack (moved t m S) u o
+pub stays-out : (script : Script) (S : State) (t : ObjNo) (m : Move) → FitsMove script t m S → (u o : ObjNo)
+    → (u.0 ≡ t.0 → ⊥) → ComesBack S u o → ComesBack (moved t m S) u o
 stays-out script S t m fits u o apart back = still-seeking S (moved t m S) u o (seeks-same script S t m fits u o (λ at. absurd (apart (sym at)))) back
 
-pub stays-out-pay : (script : Script) (S : State) (t : ObjNo) (what : Owed) (rest : List Owed) → owed_of S t ≡ what ∷ rest → AreRows script S → (u o : ObjNo) → ComesBack S u o → ComesBack (moved t (Pay what) S) u o
+pub stays-out-pay : (script : Script) (S : State) (t : ObjNo) (what : Owed) (rest : List Owed)
+    → owed_of S t ≡ what ∷ rest → AreRows script S → (u o : ObjNo) → ComesBack S u o
+    → ComesBack (moved t (Pay what) S) u o
 stays-out-pay script S t what rest owes rows u o back = still-seeking S (moved t (Pay what) S) u o (seeks-pay script S t what rest owes rows u o) back

@@ -147,7 +147,8 @@ module _ (f : Effect → ℕ) (of : IsOfCloses f) where
   immediate-is script S = tell-is supervisor (moves_of script S Idfc) S
 
   -- and an actor's action
-  pub next-is : (script : Script) (S : State) (actor : Actor) → total f (transition script S actor).outcome.effects ≡ total (told_by f) (moves_of script S actor)
+  pub next-is : (script : Script) (S : State) (actor : Actor)
+      → total f (transition script S actor).outcome.effects ≡ total (told_by f) (moves_of script S actor)
   next-is script S (Thread t) = act-is script S t
   next-is script S (Irq k) = interrupt-is script S k
   next-is script S Idfc = immediate-is script S

@@ -46,32 +46,42 @@ without-empty u [] k e = refl
 without-empty u (x ∷ xs) zero e = ap (without_maker u) e
 without-empty u (x ∷ xs) (suc k) e = without-empty u xs k e
 
-unlogged-move : (script : Script) (S : State) (a : ObjNo) (m : Move) (t : ObjNo) → FitsMove script a m S → row_bit stage_left (thread_of S t) ≡ 0 → logons_on S.synchronization.logons t ≡ [] → logons_on (moved a m S).synchronization.logons t ≡ []
-unlogged-move script S a (Logons (logon.Add v w s)) t fits left h = elim (cases_eq t.0 v.0) as (λ _. logons_on (moved a (Logons (logon.Add v w s)) S).synchronization.logons t ≡ []) [
-  | inl at ↦ absurd (is-left (thread_of S v) fits.6 fits.5 (ap (λ (n : ℕ). row_bit stage_left (get_or S.references.threads n None)) (sym at) ∙ left))
-  | inr apart ↦ get_or-set_other S.synchronization.logons v.0 t.0 _ [] apart ∙ h
-]
-unlogged-move script S a (Logons (logon.Remove v w s)) t fits left h = elim (set_either S.synchronization.logons v.0 (without_logon w s (logons_on S.synchronization.logons v)) t.0 []) as (λ _. logons_on (moved a (Logons (logon.Remove v w s)) S).synchronization.logons t ≡ []) [
-  | inl at ↦ at.1 ∙ ap (without_logon w s) (ap (λ (n : ℕ). get_or S.synchronization.logons n []) (sym at.0) ∙ h)
-  | inr other ↦ other ∙ h
-]
+unlogged-move : (script : Script) (S : State) (a : ObjNo) (m : Move) (t : ObjNo) → FitsMove script a m S
+    → row_bit stage_left (thread_of S t) ≡ 0 → logons_on S.synchronization.logons t ≡ []
+    → logons_on (moved a m S).synchronization.logons t ≡ []
+unlogged-move script S a (Logons (logon.Add v w s)) t fits left h =
+    elim (cases_eq t.0 v.0) as (λ _. logons_on (moved a (Logons (logon.Add v w s)) S).synchronization.logons t ≡ []) [
+      | inl at ↦ absurd (is-left (thread_of S v) fits.6 fits.5 (ap (λ (n : ℕ). row_bit stage_left (get_or S.references.threads n None)) (sym at) ∙ left))
+      | inr apart ↦ get_or-set_other S.synchronization.logons v.0 t.0 _ [] apart ∙ h
+    ]
+unlogged-move script S a (Logons (logon.Remove v w s)) t fits left h =
+    elim (set_either S.synchronization.logons v.0 (without_logon w s (logons_on S.synchronization.logons v)) t.0 []) as
+    (λ _. logons_on (moved a (Logons (logon.Remove v w s)) S).synchronization.logons t ≡ []) [
+      | inl at ↦ at.1 ∙ ap (without_logon w s) (ap (λ (n : ℕ). get_or S.synchronization.logons n []) (sym at.0) ∙ h)
+      | inr other ↦ other ∙ h
+    ]
 unlogged-move script S a (Logons (logon.Drop w)) t fits left h = without-empty w S.synchronization.logons t.0 h
 unlogged-move script S a (Pay what) t fits left h = absurd fits
 unlogged-move script S a _ t fits left h = h
 
 -- a server that is made is a live thread's
-unowned-move : (script : Script) (S : State) (a : ObjNo) (m : Move) (t : ObjNo) → FitsMove script a m S → row_bit stage_left (thread_of S t) ≡ 0 → owned_by S.serving.owned t ≡ [] → owned_by (moved a m S).serving.owned t ≡ []
-unowned-move script S a (Make kind name (Own u)) t fits left h = elim (cases_eq t.0 u.0) as (λ _. owned_by (moved a (Make kind name (Own u)) S).serving.owned t ≡ []) [
-  | inl at ↦
-      let same : row_bit stage_left (thread_of S u) ≡ 0 = ap (λ (n : ℕ). row_bit stage_left (get_or S.references.threads n None)) (sym at) ∙ left in
-      let one = live-one S u fits.1.owner in
-      let le = live-left (thread_of S u) in absurd (omega arith)
-  | inr apart ↦ get_or-set_other S.serving.owned u.0 t.0 _ [] apart ∙ h
-]
-unowned-move script S a (Lose (Own u) o) t fits left h = elim (set_either S.serving.owned u.0 (without o (owned_by S.serving.owned u)) t.0 []) as (λ _. owned_by (moved a (Lose (Own u) o) S).serving.owned t ≡ []) [
-  | inl at ↦ at.1 ∙ ap (without o) (ap (λ (n : ℕ). get_or S.serving.owned n []) (sym at.0) ∙ h)
-  | inr other ↦ other ∙ h
-]
+unowned-move : (script : Script) (S : State) (a : ObjNo) (m : Move) (t : ObjNo) → FitsMove script a m S
+    → row_bit stage_left (thread_of S t) ≡ 0 → owned_by S.serving.owned t ≡ []
+    → owned_by (moved a m S).serving.owned t ≡ []
+unowned-move script S a (Make kind name (Own u)) t fits left h =
+    elim (cases_eq t.0 u.0) as (λ _. owned_by (moved a (Make kind name (Own u)) S).serving.owned t ≡ []) [
+      | inl at ↦
+          let same : row_bit stage_left (thread_of S u) ≡ 0 = ap (λ (n : ℕ). row_bit stage_left (get_or S.references.threads n None)) (sym at) ∙ left in
+          let one = live-one S u fits.1.owner in
+          let le = live-left (thread_of S u) in absurd (omega arith)
+      | inr apart ↦ get_or-set_other S.serving.owned u.0 t.0 _ [] apart ∙ h
+    ]
+unowned-move script S a (Lose (Own u) o) t fits left h =
+    elim (set_either S.serving.owned u.0 (without o (owned_by S.serving.owned u)) t.0 []) as
+    (λ _. owned_by (moved a (Lose (Own u) o) S).serving.owned t ≡ []) [
+      | inl at ↦ at.1 ∙ ap (without o) (ap (λ (n : ℕ). get_or S.serving.owned n []) (sym at.0) ∙ h)
+      | inr other ↦ other ∙ h
+    ]
 unowned-move script S a (Pay what) t fits left h = absurd fits
 unowned-move script S a _ t fits left h = h
 
@@ -79,20 +89,29 @@ bare-move : (script : Script) (t : ObjNo) (S : State) (a : ObjNo) (m : Move) →
 bare-move script t S a m rows fits h =
     let d = dies-move script S a m rows fits in record {
       left = let le = d.left t in let none = h.left in omega arith;
-      held = λ o. let moves = d.locks t (Object o) in let none = d.takes_none t (Object o) (let le = live-left (thread_of S t) in let gone = h.left in omega arith) in let was = h.held o in omega arith;
+      held =
+          λ o. let moves = d.locks t (Object o) in
+          let none = d.takes_none t (Object o) (let le = live-left (thread_of S t) in let gone = h.left in omega arith) in
+          let was = h.held o in omega arith;
       logged = unlogged-move script S a m t fits h.left h.logged;
       owned = unowned-move script S a m t fits h.left h.owned;
     }
 
-paid-bare : (S : State) (a : ObjNo) (what : Owed) (t : ObjNo) → ((moved a (Pay what) S).synchronization.logons ≡ S.synchronization.logons) × ((moved a (Pay what) S).serving.owned ≡ S.serving.owned)
+paid-bare : (S : State) (a : ObjNo) (what : Owed) (t : ObjNo)
+    → ((moved a (Pay what) S).synchronization.logons ≡ S.synchronization.logons)
+    × ((moved a (Pay what) S).serving.owned ≡ S.serving.owned)
 paid-bare S a (Close h o) t = (refl, refl)
 paid-bare S a (Sweep o) t = (refl, refl)
 
-bare-pay : (script : Script) (t : ObjNo) (S : State) (a : ObjNo) (what : Owed) (rest : List Owed) → AreRows script S → owed_of S a ≡ what ∷ rest → a.0 < length S.references.owed → IsBare S t → IsBare (moved a (Pay what) S) t
+bare-pay : (script : Script) (t : ObjNo) (S : State) (a : ObjNo) (what : Owed) (rest : List Owed) → AreRows script S
+    → owed_of S a ≡ what ∷ rest → a.0 < length S.references.owed → IsBare S t → IsBare (moved a (Pay what) S) t
 bare-pay script t S a what rest rows owes here h =
     let d = dies-pay script S a what rest owes here rows in record {
       left = let le = d.left t in let none = h.left in omega arith;
-      held = λ o. let moves = d.locks t (Object o) in let none = d.takes_none t (Object o) (let le = live-left (thread_of S t) in let gone = h.left in omega arith) in let was = h.held o in omega arith;
+      held =
+          λ o. let moves = d.locks t (Object o) in
+          let none = d.takes_none t (Object o) (let le = live-left (thread_of S t) in let gone = h.left in omega arith) in
+          let was = h.held o in omega arith;
       logged = ap (λ (l : List (List (ObjNo × ℕ))). logons_on l t) (paid-bare S a what t).0 ∙ h.logged;
       owned = ap (λ (l : List (List ObjNo)). owned_by l t) (paid-bare S a what t).1 ∙ h.owned;
     }
@@ -109,5 +128,8 @@ bare-cleaned script S e t rows c =
       left = left-after script S e t c;
       held = λ o. ap (λ (l : List (List ObjNo)). times_held l t o) later.mutexes ∙ ap (total (mutex_names o)) has.mutexes;
       logged = ap (λ (l : List (List (ObjNo × ℕ))). logons_on l t) later.logons ∙ has.logons;
-      owned = ap (λ (l : List (List ObjNo)). owned_by l t) later.owned ∙ none-owned S (owned_by S.serving.owned t) (λ o some. rows.serving.servers.closing t.0 known.row o known.is (ap is_live known.doomed) some) has.servers;
+      owned =
+          ap (λ (l : List (List ObjNo)). owned_by l t) later.owned
+          ∙ none-owned S (owned_by S.serving.owned t)
+          (λ o some. rows.serving.servers.closing t.0 known.row o known.is (ap is_live known.doomed) some) has.servers;
     }

@@ -30,7 +30,8 @@ pub legal-front : (script : Script) (S : State) (place : ℕ) (xs ys : List Entr
 legal-front script S place [] ys h = tt
 legal-front script S place (x ∷ xs) ys h = (h.0, legal-front script (next_by script S x) (place + 1) xs ys h.1)
 
-pub legal-rest : (script : Script) (S : State) (place : ℕ) (xs ys : List Entry) → IsLegalFrom script S place (xs ++ ys) → (n : ℕ) × IsLegalFrom script (after_from script S xs) n ys
+pub legal-rest : (script : Script) (S : State) (place : ℕ) (xs ys : List Entry) → IsLegalFrom script S place (xs ++ ys)
+    → (n : ℕ) × IsLegalFrom script (after_from script S xs) n ys
 legal-rest script S place [] ys h = (place, h)
 legal-rest script S place (x ∷ xs) ys h = legal-rest script (next_by script S x) (place + 1) xs ys h.1
 
@@ -46,12 +47,19 @@ pub record IsCut (shared : Bool) (script : Script) (before : List Entry) (e : En
   pub step : Dies (after_in shared script before) (next_by script (after_in shared script before) e) e.effects
   pub rows_next : AreRows script (next_by script (after_in shared script before) e)
   pub legal : IsLegalFrom script (next_by script (after_in shared script before) e) (place + 1) later
-  pub rest : Dies (next_by script (after_in shared script before) e) (after_from script (next_by script (after_in shared script before) e) later) (effects_of later)
+  pub rest : Dies (next_by script (after_in shared script before) e)
+      (after_from script (next_by script (after_in shared script before) e) later) (effects_of later)
 
-pub dies-history : (shared : Bool) (script : Script) (history : List Entry) → IsWellFormed script → IsLegalIn shared script history → Dies (boot_in shared script) (after_in shared script history) (effects_of history)
-dies-history shared script history valid legal = dies-run script (boot_in shared script) 1 history (formed_is_shaped script valid) (rows-boot shared script valid) legal
+pub dies-history : (shared : Bool) (script : Script) (history : List Entry) → IsWellFormed script
+    → IsLegalIn shared script history
+    → Dies (boot_in shared script) (after_in shared script history) (effects_of history)
+dies-history shared script history valid legal =
+    dies-run script (boot_in shared script) 1 history (formed_is_shaped script valid)
+    (rows-boot shared script valid) legal
 
-pub cut : (shared : Bool) (script : Script) (history before : List Entry) (e : Entry) (later : List Entry) → IsWellFormed script → IsLegalIn shared script history → history ≡ before ++ e ∷ later → IsCut shared script before e later
+pub cut : (shared : Bool) (script : Script) (history before : List Entry) (e : Entry) (later : List Entry)
+    → IsWellFormed script → IsLegalIn shared script history → history ≡ before ++ e ∷ later
+    → IsCut shared script before e later
 cut shared script history before e later valid legal is =
     let shaped = formed_is_shaped script valid in
     let all : IsLegalIn shared script (before ++ e ∷ later) = subst (IsLegalIn shared script) is legal in
@@ -75,15 +83,19 @@ cut shared script history before e later valid legal is =
     }
 
 -- at boot each thread is live, and nobody has a lock
-pub live-boot : (script : Script) (t : ObjNo) → IsWellFormed script → row_bit stage_holds (thread_of (boot script) t) ≡ row_bit stage_live (thread_of (boot script) t)
+pub live-boot : (script : Script) (t : ObjNo) → IsWellFormed script
+    → row_bit stage_holds (thread_of (boot script) t) ≡ row_bit stage_live (thread_of (boot script) t)
 unfolding boot_of
 live-boot script t valid = by (thread_of (boot script) t) refl
   where
     by : (x : Option ThreadRow) → thread_of (boot script) t ≡ x → row_bit stage_holds x ≡ row_bit stage_live x
     by None is = refl
-    by (Some row) is = let new = born_row script _ (born script) t.0 row (each_born script (formed_is_shaped script valid)) is in ap stage_holds new.live ∙ sym (ap stage_live new.live)
+    by (Some row) is = let new = born_row script _ (born script) t.0 row
+        (each_born script (formed_is_shaped script valid)) is in ap stage_holds new.live
+        ∙ sym (ap stage_live new.live)
 
-pub unlocked-boot : (script : Script) (t : ObjNo) (lock : LockNo) → lock_bit (boot script).synchronization.nano.holders (boot script).synchronization.mutexes t lock ≡ 0
+pub unlocked-boot : (script : Script) (t : ObjNo) (lock : LockNo)
+    → lock_bit (boot script).synchronization.nano.holders (boot script).synchronization.mutexes t lock ≡ 0
 unfolding boot_of
 unlocked-boot script t (Object o) = nothing_at (born script) (λ (l : List ObjNo). total (mutex_names o) l ≡ 0) t.0 refl
 unlocked-boot script t (Fast f) = ap (option_names t) (copy_at {A = Option ObjNo} None script.fast f)

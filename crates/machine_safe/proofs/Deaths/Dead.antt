@@ -44,13 +44,16 @@ use Rattle.machine_safe.specs.CountAfter.{effects_of}
 -- no table has an object at boot
 emptied-boot : (script : Script) → AreEmptied (boot script)
 unfolding boot_of
-emptied-boot script p none left i = elim (const_either (replicate 256 fresh_slot) [] (born script) p.0) as (λ _. (slot_at (get_or (map (λ _. replicate 256 fresh_slot) (born script)) p.0 []) i).object ≡ None) [
-  | inl fresh ↦ ap (λ (table : List HandleSlot). (slot_at table i).object) fresh ∙ ap (λ (slot : HandleSlot). slot.object) (copy_at fresh_slot 256 i)
-  | inr past ↦ ap (λ (table : List HandleSlot). (slot_at table i).object) past
-]
+emptied-boot script p none left i =
+    elim (const_either (replicate 256 fresh_slot) [] (born script) p.0) as
+    (λ _. (slot_at (get_or (map (λ _. replicate 256 fresh_slot) (born script)) p.0 []) i).object ≡ None) [
+      | inl fresh ↦ ap (λ (table : List HandleSlot). (slot_at table i).object) fresh ∙ ap (λ (slot : HandleSlot). slot.object) (copy_at fresh_slot 256 i)
+      | inr past ↦ ap (λ (table : List HandleSlot). (slot_at table i).object) past
+    ]
 
 -- processes without a thread that is left have no handles, after each history
-emptied-run : (script : Script) (S : State) (place : ℕ) (es : List Entry) → IsShaped script → AreRows script S → IsLegalFrom script S place es → AreEmptied S → AreEmptied (after_from script S es)
+emptied-run : (script : Script) (S : State) (place : ℕ) (es : List Entry) → IsShaped script → AreRows script S
+    → IsLegalFrom script S place es → AreEmptied S → AreEmptied (after_from script S es)
 emptied-run script S place [] shaped rows legal h = h
 emptied-run script S place (e ∷ es) shaped rows legal h =
     emptied-run script (next_by script S e) (place + 1) es shaped (rows-by script S e shaped rows) legal.1
@@ -63,17 +66,25 @@ no-mutexes (x ∷ xs) none = let own = same_self x in let zero = none x in absur
 
 no-handles-held : (holder : ℕ → Holder) (i : ℕ) (table : List HandleSlot) → ((j : ℕ) → (slot_at table j).object ≡ None) → held_handles holder i table ≡ []
 no-handles-held holder i [] none = refl
-no-handles-held holder i (slot ∷ rest) none = ap (λ (l : List Holding). l ++ held_handles holder (i + 1) rest) (ap (held_slot (holder i)) (none zero)) ∙ no-handles-held holder (i + 1) rest (λ j. none (suc j))
+no-handles-held holder i (slot ∷ rest) none =
+    ap (λ (l : List Holding). l ++ held_handles holder (i + 1) rest) (ap (held_slot (holder i)) (none zero))
+    ∙ no-handles-held holder (i + 1) rest (λ j. none (suc j))
 
 both-none : {A : Type 0} (xs ys : List A) → xs ≡ [] → ys ≡ [] → xs ++ ys ≡ []
 both-none {A = A} xs ys left right = ap (λ (l : List A). l ++ ys) left ∙ right
 
 -- a thread that is gone has nothing left
-has-none : (script : Script) (S : State) (t : ObjNo) (row : ThreadRow) → AreRows script S → IsGone S t → AreEmptied S → thread_of S t ≡ Some row → holdings S t row ≡ []
+has-none : (script : Script) (S : State) (t : ObjNo) (row : ThreadRow) → AreRows script S → IsGone S t → AreEmptied S
+    → thread_of S t ≡ Some row → holdings S t row ≡ []
 has-none script S t row rows h emptied is =
-    both-none (held_mutexes S t ++ held_servers S t ++ held_use row.uses ++ held_handles (InThread t) 0 (table_of S t) ++ process_handles S t row.process) (held_logons S t)
+    both-none (held_mutexes S t ++ held_servers S t ++ held_use row.uses ++ held_handles (InThread t) 0
+    (table_of S t) ++ process_handles S t row.process) (held_logons S t)
     (both-none (held_mutexes S t ++ held_servers S t ++ held_use row.uses ++ held_handles (InThread t) 0 (table_of S t)) (process_handles S t row.process)
-    (both-none (held_mutexes S t ++ held_servers S t ++ held_use row.uses) (held_handles (InThread t) 0 (table_of S t)) (both-none (held_mutexes S t ++ held_servers S t) (held_use row.uses) (both-none (held_mutexes S t) (held_servers S t) mutexes servers) (ap held_use spent.unused)) (no-handles-held (InThread t) 0 (table_of S t) spent.empty)) (process (total (left_of row.process) S.references.threads == left_of row.process (thread_of S t)) refl))
+    (both-none (held_mutexes S t ++ held_servers S t ++ held_use row.uses) (held_handles (InThread t) 0 (table_of S t))
+    (both-none (held_mutexes S t ++ held_servers S t) (held_use row.uses)
+    (both-none (held_mutexes S t) (held_servers S t) mutexes servers) (ap held_use spent.unused))
+    (no-handles-held (InThread t) 0 (table_of S t) spent.empty))
+    (process (total (left_of row.process) S.references.threads == left_of row.process (thread_of S t)) refl))
     (ap (map (λ (logon : ObjNo × ℕ). Logon logon.0 logon.1)) h.bare.logged)
   where
     spent : IsSpent S.references.handles t.0 row
@@ -85,11 +96,14 @@ has-none script S t row rows h emptied is =
     mutexes : held_mutexes S t ≡ []
     mutexes = ap (map (λ (o : ObjNo). Mutex o)) (no-mutexes (get_or S.synchronization.mutexes t.0 []) h.bare.held)
 
-    process : (b : Bool) → (total (left_of row.process) S.references.threads == left_of row.process (thread_of S t)) ≡ b → (if b then held_handles (InProcess row.process) 0 (table_of S row.process) else []) ≡ []
+    process : (b : Bool) → (total (left_of row.process) S.references.threads == left_of row.process (thread_of S t)) ≡ b
+        → (if b then held_handles (InProcess row.process) 0 (table_of S row.process) else []) ≡ []
     process false e = refl
     process true e =
         let only = eqb-true (total (left_of row.process) S.references.threads) (left_of row.process (thread_of S t)) e in
-        no-handles-held (InProcess row.process) 0 (table_of S row.process) (emptied row.process (rows.references.threads.processes t.0 row is) (only ∙ left-none row.process (thread_of S t) h.left))
+        no-handles-held (InProcess row.process) 0 (table_of S row.process)
+        (emptied row.process (rows.references.threads.processes t.0 row is)
+        (only ∙ left-none row.process (thread_of S t) h.left))
 
 -- and it has none without its row too, where no row ever had its number for its process
 none-left : (script : Script) (S : State) (t : ObjNo) → AreRows script S → IsGone S t → IsEmptyTable S.references.handles t → HasNone S t
@@ -105,10 +119,17 @@ none-left script S t rows h empty = record {
     by None e = refl
     by (Some f) e =
         let none = unheld script S t f rows (let le = live-left (thread_of S t) in let left = h.left in omega arith) in
-        let one : option_names t (holder_of S.synchronization.nano f) ≡ 1 = ap (option_names t) (held_holder S.synchronization.nano t f e).1 ∙ same_self t in absurd (omega arith)
+        let one : option_names t (holder_of S.synchronization.nano f) ≡ 1 =
+        ap (option_names t) (held_holder S.synchronization.nano t f e).1 ∙ same_self t in
+        absurd (omega arith)
 
-no-process : (shared : Bool) (script : Script) (before : List Entry) (t : ObjNo) → IsWellFormed script → Dies (boot_in shared script) (after_in shared script before) (effects_of before) → 0 < row_bit stage_left (thread_of (boot_in shared script) t) → total (left_of t) (after_in shared script before).references.threads ≡ 0
-no-process shared script before t valid front was = total-none (left_of t) (after_in shared script before).references.threads None (λ j. by j (get_or (after_in shared script before).references.threads j None) refl)
+no-process : (shared : Bool) (script : Script) (before : List Entry) (t : ObjNo) → IsWellFormed script
+    → Dies (boot_in shared script) (after_in shared script before) (effects_of before)
+    → 0 < row_bit stage_left (thread_of (boot_in shared script) t)
+    → total (left_of t) (after_in shared script before).references.threads ≡ 0
+no-process shared script before t valid front was =
+    total-none (left_of t) (after_in shared script before).references.threads None
+    (λ j. by j (get_or (after_in shared script before).references.threads j None) refl)
   where
     by : (j : ℕ) (x : Option ThreadRow) → get_or (after_in shared script before).references.threads j None ≡ x → left_of t x ≡ 0
     by j None is = refl
@@ -120,21 +141,33 @@ no-process shared script before t valid front was = total-none (left_of t) (afte
             let old = front.were j row is in
             let none = (rows-boot shared script valid).references.threads.processes j old.old old.was in
             let same : old.old.process.0 ≡ t.0 = ap (λ (p : ObjNo). p.0) old.process ∙ eqb-true row.process.0 t.0 e in
-            let gone : row_bit stage_left (thread_of (boot_in shared script) t) ≡ 0 = ap (row_bit stage_left) (ap (λ (n : ℕ). get_or (boot_in shared script).references.threads n None) (sym same) ∙ none) in absurd (omega arith)
+            let gone : row_bit stage_left (thread_of (boot_in shared script) t) ≡ 0 =
+            ap (row_bit stage_left) (ap (λ (n : ℕ). get_or (boot_in shared script).references.threads n None) (sym same)
+            ∙ none) in
+            absurd (omega arith)
 
-own-empty : (shared : Bool) (script : Script) (before : List Entry) (t : ObjNo) → IsWellFormed script → IsLegalIn shared script before → AreEmptied (after_in shared script before) → IsGone (after_in shared script before) t → 0 < cleanings before t → IsEmptyTable (after_in shared script before).references.handles t
+own-empty : (shared : Bool) (script : Script) (before : List Entry) (t : ObjNo) → IsWellFormed script
+    → IsLegalIn shared script before → AreEmptied (after_in shared script before)
+    → IsGone (after_in shared script before) t → 0 < cleanings before t
+    → IsEmptyTable (after_in shared script before).references.handles t
 own-empty shared script before t valid legal emptied h some = by (thread_of (after_in shared script before) t) refl
   where
     by : (x : Option ThreadRow) → thread_of (after_in shared script before) t ≡ x → IsEmptyTable (after_in shared script before).references.handles t
-    by (Some row) is = ((well_formed-after shared script before valid).rows.references.spent.rows t.0 row is (not-left row.stage (sym (ap (row_bit stage_left) is) ∙ h.left))).empty
+    by (Some row) is = ((well_formed-after shared script before valid).rows.references.spent.rows t.0 row is
+        (not-left row.stage (sym (ap (row_bit stage_left) is) ∙ h.left))).empty
     by None is =
         let run = exact-run script (boot_in shared script) 1 before t (formed_is_shaped script valid) (rows-boot shared script valid) legal in
         emptied t is (no-process shared script before t valid (dies-history shared script before valid legal) (omega arith))
 
-pub stays-dead : (shared : Bool) (script : Script) (history : List Entry) (t : ObjNo) → IsWellFormed script → IsLegalIn shared script history → StaysDead shared script history t
+pub stays-dead : (shared : Bool) (script : Script) (history : List Entry) (t : ObjNo) → IsWellFormed script
+    → IsLegalIn shared script history → StaysDead shared script history t
 stays-dead shared script history t valid legal = record {
-  acts = λ before e later is some. let c = cut shared script history before e later valid legal is in no-action script (after_in shared script before) t e.actor c.rows (gone before c.legal_before some) c.here.able;
-  gains = λ before e later h o is some own. let c = cut shared script history before e later valid legal is in c.step.gains_none h o (own-barred (after_in shared script before) t h (gone before c.legal_before some).left own);
+  acts =
+      λ before e later is some. let c = cut shared script history before e later valid legal is in
+      no-action script (after_in shared script before) t e.actor c.rows (gone before c.legal_before some) c.here.able;
+  gains =
+      λ before e later h o is some own. let c = cut shared script history before e later valid legal is in
+      c.step.gains_none h o (own-barred (after_in shared script before) t h (gone before c.legal_before some).left own);
   shares = λ before e later row i o is some at others.
       let c = cut shared script history before e later valid legal is in
       let none = left-none row.process (thread_of (after_in shared script before) t) (gone before c.legal_before some).left in
@@ -142,8 +175,13 @@ stays-dead shared script history t valid legal = record {
   owes = λ before later is some. (gone before (front before later is) some).paid;
   none = λ before later is some.
       let first = front before later is in
-      none-left script (after_in shared script before) t (well_formed-after shared script before valid).rows (gone before first some) (own-empty shared script before t valid first (emptied before first) (gone before first some) some);
-  has = λ before later row is some at. has-none script (after_in shared script before) t row (well_formed-after shared script before valid).rows (gone before (front before later is) some) (emptied before (front before later is)) at;
+      none-left script (after_in shared script before) t (well_formed-after shared script before valid).rows
+      (gone before first some) (own-empty shared script before t valid first (emptied before first)
+      (gone before first some) some);
+  has =
+      λ before later row is some at. has-none script (after_in shared script before) t row
+      (well_formed-after shared script before valid).rows (gone before (front before later is) some)
+      (emptied before (front before later is)) at;
 }
   where
     shaped : IsShaped script

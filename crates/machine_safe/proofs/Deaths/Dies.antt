@@ -58,7 +58,9 @@ pub record Dies (S T : State) (effects : List Effect) : Type 0 where
   pub live : (t : ObjNo) → row_bit stage_live (thread_of T t) + dooms effects t ≡ row_bit stage_live (thread_of S t)
   pub left : (t : ObjNo) → row_bit stage_left (thread_of T t) ≤ row_bit stage_left (thread_of S t)
   pub held : (t : ObjNo) → row_bit stage_holds (thread_of T t) + burials effects t ≡ row_bit stage_holds (thread_of S t)
-  pub locks : (t : ObjNo) (lock : LockNo) → lock_bit T.synchronization.nano.holders T.synchronization.mutexes t lock + gives effects t lock ≡ lock_bit S.synchronization.nano.holders S.synchronization.mutexes t lock + takes effects t lock
+  pub locks : (t : ObjNo) (lock : LockNo)
+      → lock_bit T.synchronization.nano.holders T.synchronization.mutexes t lock + gives effects t lock
+      ≡ lock_bit S.synchronization.nano.holders S.synchronization.mutexes t lock + takes effects t lock
   pub takes_none : (t : ObjNo) (lock : LockNo) → row_bit stage_live (thread_of S t) ≡ 0 → takes effects t lock ≡ 0
   pub signals_none : (t : ObjNo) → row_bit stage_live (thread_of S t) ≡ 0 → signals effects t ≡ 0
   pub gains_none : GainsNone S effects
@@ -70,7 +72,8 @@ total-below f xs [] d none le = omega arith
 total-below f [] (y ∷ ys) d none le = let first : f y ≤ f d = le 0 in let rest : total f ys ≤ 0 = total-below f [] ys d none (λ j. le (suc j)) in omega arith
 total-below f (x ∷ xs) (y ∷ ys) d none le = let first : f y ≤ f x = le 0 in let rest = total-below f xs ys d none (λ j. le (suc j)) in omega arith
 
-left-below : (S T : State) (effects : List Effect) (p : ObjNo) → Dies S T effects → total (left_of p) T.references.threads ≤ total (left_of p) S.references.threads
+left-below : (S T : State) (effects : List Effect) (p : ObjNo) → Dies S T effects
+    → total (left_of p) T.references.threads ≤ total (left_of p) S.references.threads
 left-below S T effects p h = total-below (left_of p) S.references.threads T.references.threads None refl (λ k. by k (get_or T.references.threads k None) refl)
   where
     by : (k : ℕ) (x : Option ThreadRow) → get_or T.references.threads k None ≡ x → left_of p x ≤ left_of p (get_or S.references.threads k None)
@@ -81,8 +84,13 @@ left-below S T effects p h = total-below (left_of p) S.references.threads T.refe
         let now : row_bit stage_left (thread_of T t) ≡ stage_left row.stage = ap (row_bit stage_left) is in
         let old : row_bit stage_left (thread_of S t) ≡ stage_left was.old.stage = ap (row_bit stage_left) was.was in
         let fewer = h.left t in
-        let there : left_of p (get_or S.references.threads k None) ≡ (if row.process.0 == p.0 then stage_left was.old.stage else 0) = ap (left_of p) was.was ∙ ap (λ (q : ObjNo). if q.0 == p.0 then stage_left was.old.stage else 0) was.process in
-        let both : (if row.process.0 == p.0 then stage_left row.stage else 0) ≤ (if row.process.0 == p.0 then stage_left was.old.stage else 0) = chosen (row.process.0 == p.0) (stage_left row.stage) (stage_left was.old.stage) (omega arith) in omega arith
+        let there : left_of p (get_or S.references.threads k None)
+        ≡ (if row.process.0 == p.0 then stage_left was.old.stage else 0) =
+        ap (left_of p) was.was ∙ ap (λ (q : ObjNo). if q.0 == p.0 then stage_left was.old.stage else 0) was.process in
+        let both : (if row.process.0 == p.0 then stage_left row.stage else 0)
+        ≤ (if row.process.0 == p.0 then stage_left was.old.stage else 0) =
+        chosen (row.process.0 == p.0) (stage_left row.stage) (stage_left was.old.stage) (omega arith) in
+        omega arith
       where
         chosen : (b : Bool) (n m : ℕ) → n ≤ m → (if b then n else 0) ≤ (if b then m else 0)
         chosen true n m le = le
@@ -116,7 +124,9 @@ dies-then S T U es fs h g = record {
       let a = h.gains_none holder o none in
       let b = g.gains_none holder o (barred-after S T es holder h none) in
       let c = pluses_by-append es fs holder o in omega arith;
-  were = λ k row is. let one = g.were k row is in let two = h.were k one.old one.was in record { old = two.old; was = two.was; process = two.process ∙ one.process };
+  were =
+      λ k row is. let one = g.were k row is in let two = h.were k one.old one.was in
+      record { old = two.old; was = two.was; process = two.process ∙ one.process };
 }
 
 -- effects that tell of no death, no lock and no signal
@@ -128,13 +138,18 @@ pub record IsCalm (effects : List Effect) : Type 0 where
   pub signals : (t : ObjNo) → signals effects t ≡ 0
 
 -- moves that leave stages and locks
-pub dies-calm : (S T : State) (effects : List Effect) → KeepsRows S.references.threads T.references.threads → T.synchronization.nano.holders ≡ S.synchronization.nano.holders → T.synchronization.mutexes ≡ S.synchronization.mutexes → IsCalm effects → GainsNone S effects → Dies S T effects
+pub dies-calm : (S T : State) (effects : List Effect) → KeepsRows S.references.threads T.references.threads
+    → T.synchronization.nano.holders ≡ S.synchronization.nano.holders
+    → T.synchronization.mutexes ≡ S.synchronization.mutexes → IsCalm effects → GainsNone S effects → Dies S T effects
 dies-calm S T effects rows holders mutexes calm gains = record {
   live = λ t. let a = rows.stages stage_live t.0 in let b = calm.dooms t in omega arith;
   left = λ t. let a = rows.stages stage_left t.0 in omega arith;
   held = λ t. let a = rows.stages stage_holds t.0 in let b = calm.burials t in omega arith;
   locks = λ t lock.
-      let same : lock_bit T.synchronization.nano.holders T.synchronization.mutexes t lock ≡ lock_bit S.synchronization.nano.holders S.synchronization.mutexes t lock = ap (λ (l : List (Option ObjNo)). lock_bit l T.synchronization.mutexes t lock) holders ∙ ap (λ (l : List (List ObjNo)). lock_bit S.synchronization.nano.holders l t lock) mutexes in
+      let same : lock_bit T.synchronization.nano.holders T.synchronization.mutexes t lock
+      ≡ lock_bit S.synchronization.nano.holders S.synchronization.mutexes t lock =
+      ap (λ (l : List (Option ObjNo)). lock_bit l T.synchronization.mutexes t lock) holders
+      ∙ ap (λ (l : List (List ObjNo)). lock_bit S.synchronization.nano.holders l t lock) mutexes in
       let a = calm.takes t lock in
       let b = calm.gives t lock in omega arith;
   takes_none = λ t lock none. calm.takes t lock;

@@ -63,27 +63,32 @@ use Rattle.machine.specs.EntryWords.{is_clean}
 abbrev OwesNoMore : ObjNo → ObjNo → ℕ → Type 0
 OwesNoMore t u owes = (u.0 ≡ t.0 → ⊥) ⊎ (owes ≡ 0)
 
-owed-lock : (script : Script) (S : State) (t : ObjNo) (m : LockMove) (u : ObjNo) → FitsMove script t (Locks m) S → OwesNoMore t u (most_owed (Locks m)) → owed_of (moved t (Locks m) S) u ≡ owed_of S u
+owed-lock : (script : Script) (S : State) (t : ObjNo) (m : LockMove) (u : ObjNo) → FitsMove script t (Locks m) S
+    → OwesNoMore t u (most_owed (Locks m)) → owed_of (moved t (Locks m) S) u ≡ owed_of S u
 owed-lock script S t (Unlock o v Freed) u fits (inl apart) = get_or-set_other S.references.owed v.0 u.0 _ [] (λ e. apart (e ∙ ap (λ (x : ObjNo). x.0) fits.0))
-owed-lock script S t (Unlock o v (Passed w)) u fits (inl apart) = get_or-set_other S.references.owed v.0 u.0 _ [] (λ e. apart (e ∙ ap (λ (x : ObjNo). x.0) fits.0))
+owed-lock script S t (Unlock o v (Passed w)) u fits (inl apart) =
+    get_or-set_other S.references.owed v.0 u.0 _ [] (λ e. apart (e ∙ ap (λ (x : ObjNo). x.0) fits.0))
 owed-lock script S t (Free o v best) u fits (inl apart) = get_or-set_other S.references.owed v.0 u.0 _ [] (λ e. apart (e ∙ ap (λ (x : ObjNo). x.0) fits.0))
 owed-lock script S t (Unlock o v unlocked) u fits (inr none) = absurd (omega arith)
 owed-lock script S t (Free o v best) u fits (inr none) = absurd (omega arith)
 owed-lock script S t _ u fits none = refl
 
-owed-death : (script : Script) (S : State) (t : ObjNo) (m : DeathMove) (u : ObjNo) → OwesNoMore t u (most_owed (Death m)) → owed_of (moved t (Death m) S) u ≡ owed_of S u
+owed-death : (script : Script) (S : State) (t : ObjNo) (m : DeathMove) (u : ObjNo)
+    → OwesNoMore t u (most_owed (Death m)) → owed_of (moved t (Death m) S) u ≡ owed_of S u
 owed-death script S t (Bury v) u (inl apart) = get_or-set_other S.references.owed t.0 u.0 _ [] apart
 owed-death script S t (Bury v) u (inr none) = absurd (omega arith)
 owed-death script S t (Note v exit) u none = refl
 owed-death script S t (Doom v exit) u none = refl
 owed-death script S t (Clean v) u none = refl
 
-owed-message : (S : State) (t : ObjNo) (m : MessageMove) (u : ObjNo) → OwesNoMore t u (most_owed (Messages m)) → owed_of (moved t (Messages m) S) u ≡ owed_of S u
+owed-message : (S : State) (t : ObjNo) (m : MessageMove) (u : ObjNo) → OwesNoMore t u (most_owed (Messages m))
+    → owed_of (moved t (Messages m) S) u ≡ owed_of S u
 owed-message S t (Finish n code) u (inl apart) = get_or-set_other S.references.owed t.0 u.0 _ [] apart
 owed-message S t (Finish n code) u (inr none) = absurd (omega arith)
 owed-message S t m u none = refl
 
-owed-move : (script : Script) (S : State) (t : ObjNo) (m : Move) (u : ObjNo) → FitsMove script t m S → OwesNoMore t u (most_owed m) → owed_of (moved t m S) u ≡ owed_of S u
+owed-move : (script : Script) (S : State) (t : ObjNo) (m : Move) (u : ObjNo) → FitsMove script t m S
+    → OwesNoMore t u (most_owed m) → owed_of (moved t m S) u ≡ owed_of S u
 owed-move script S t (Lose h o) u fits (inl apart) = get_or-set_other S.references.owed t.0 u.0 _ [] apart
 owed-move script S t (Lose h o) u fits (inr none) = absurd (omega arith)
 owed-move script S t (Advance v) u fits (inl apart) = get_or-set_other S.references.owed v.0 u.0 _ [] (λ e. apart (e ∙ ap (λ (x : ObjNo). x.0) fits.0))
@@ -104,13 +109,17 @@ rest-owes : (t u : ObjNo) (n m : ℕ) → OwesNoMore t u (n + m) → OwesNoMore 
 rest-owes t u n m (inl apart) = inl apart
 rest-owes t u n m (inr none) = inr (omega arith)
 
-each-owed : (script : Script) (S : State) (t : ObjNo) (ms : List Move) (u : ObjNo) → EachFits script t ms S → OwesNoMore t u (total most_owed ms) → owed_of (perform t ms S) u ≡ owed_of S u
+each-owed : (script : Script) (S : State) (t : ObjNo) (ms : List Move) (u : ObjNo) → EachFits script t ms S
+    → OwesNoMore t u (total most_owed ms) → owed_of (perform t ms S) u ≡ owed_of S u
 each-owed script S t [] u fits none = refl
 each-owed script S t (m ∷ ms) u fits none =
-    each-owed script (moved t m S) t ms u fits.1 (rest-owes t u (most_owed m) (total most_owed ms) none) ∙ owed-move script S t m u fits.0 (first-owes t u (most_owed m) (total most_owed ms) none)
+    each-owed script (moved t m S) t ms u fits.1 (rest-owes t u (most_owed m) (total most_owed ms) none)
+    ∙ owed-move script S t m u fits.0 (first-owes t u (most_owed m) (total most_owed ms) none)
 
 owed-pay : (S : State) (t : ObjNo) (what : Owed) (u : ObjNo) → (u.0 ≡ t.0 → ⊥) → owed_of (moved t (Pay what) S) u ≡ owed_of S u
-owed-pay S t (Close h o) u apart = get_or-set_other (without_first S.references.owed t) t.0 u.0 _ [] apart ∙ get_or-set_other S.references.owed t.0 u.0 _ [] apart
+owed-pay S t (Close h o) u apart =
+    get_or-set_other (without_first S.references.owed t) t.0 u.0 _ [] apart
+    ∙ get_or-set_other S.references.owed t.0 u.0 _ [] apart
 owed-pay S t (Sweep o) u apart = get_or-set_other S.references.owed t.0 u.0 _ [] apart
 
 -- an action of another
@@ -120,7 +129,8 @@ owed-act script S t u shaped rows apart = of_action script S t (λ (ms : List Mo
     (λ ms sane goes. each-owed script S t ms u goes.each (inl apart)) (λ what rest sane owes. owed-pay S t what u apart) refl
 
 -- a body owes nothing
-owed-body : (script : Script) (S : State) (body : Body) (u : ObjNo) → IsShaped script → AreRows script S → owed_of (perform supervisor (run_body script supervisor S body).moves S) u ≡ owed_of S u
+owed-body : (script : Script) (S : State) (body : Body) (u : ObjNo) → IsShaped script → AreRows script S
+    → owed_of (perform supervisor (run_body script supervisor S body).moves S) u ≡ owed_of S u
 owed-body script S body u shaped rows =
     let s = sane-supervisor script S rows in
     let leave = leave_queue S body in
@@ -142,7 +152,8 @@ owed-immediate script S u shaped rows = by (next_immediate S.synchronization.def
     by (Some (item.Idfc call)) = owed-body script S (Immediate call) u shaped rows
     by (Some (item.Move dfc)) = refl
 
-owed-next : (script : Script) (S : State) (actor : Actor) (u : ObjNo) → IsShaped script → AreRows script S → is_by u actor ≡ false → owed_of (next script S actor) u ≡ owed_of S u
+owed-next : (script : Script) (S : State) (actor : Actor) (u : ObjNo) → IsShaped script → AreRows script S
+    → is_by u actor ≡ false → owed_of (next script S actor) u ≡ owed_of S u
 owed-next script S (Thread t) u shaped rows other = owed-act script S t u shaped rows (λ e. let same : is_by u (Thread t) ≡ true = own e in absurd (cc))
   where
     own : u.0 ≡ t.0 → is_by u (Thread t) ≡ true
@@ -169,7 +180,10 @@ both-false true b e = e
 both-false false b e = refl
 
 -- such a thread has nothing to do
-idle-by : (returns : Bool) (at : Option Instr) (owed : List Owed) (stage : Stage) (has : List Holding) (own : Option Task) → returns ≡ false → owed ≡ [] → is_spent stage ≡ true → is_some (return_or returns at (pay_or (first_of owed) (by_stage stage has own))) ≡ false
+idle-by : (returns : Bool) (at : Option Instr) (owed : List Owed) (stage : Stage) (has : List Holding)
+    (own : Option Task)
+    → returns ≡ false → owed ≡ [] → is_spent stage ≡ true
+    → is_some (return_or returns at (pay_or (first_of owed) (by_stage stage has own))) ≡ false
 idle-by true at owed stage has own going paid spent = absurd (cc)
 idle-by false at (x ∷ xs) stage has own going paid spent = absurd (cc)
 idle-by false at [] Live has own going paid spent = absurd (cc)
@@ -184,7 +198,8 @@ no-task script S t rows h = by (thread_of S t) refl h.left
     by None is left = refl
     by (Some row) is left =
         let spent = not-left row.stage left in
-        idle-by (is_returning row.part) (instruction script row) (owed_of S t) row.stage (holdings S t row) _ (rows.references.spent.rows t.0 row is spent).going h.paid spent
+        idle-by (is_returning row.part) (instruction script row) (owed_of S t) row.stage (holdings S t row) _
+        (rows.references.spent.rows t.0 row is spent).going h.paid spent
 
 -- nor is it out
 not-out : (script : Script) (S : State) (t : ObjNo) → AreRows script S → IsGone S t → is_out S t ≡ false
@@ -207,7 +222,8 @@ no-action script S t (Thread u) rows h able = by (u.0 == t.0) refl
     by true e =
         let same : u ≡ t = same_object u t (eqb-true u.0 t.0 e) in
         let may : may_act script S t ≡ true = subst (λ (x : ObjNo). may_act script S x ≡ true) same able in
-        let parts = both (is_ready script S t) (is_none (wanted_holder S.synchronization.nano t)) (able_or (is_able script S t) (is_out S t) (not-out script S t rows h) may) in
+        let parts = both (is_ready script S t) (is_none (wanted_holder S.synchronization.nano t))
+        (able_or (is_able script S t) (is_out S t) (not-out script S t rows h) may) in
         let ready = both (not (is_waiting S t) && not (is_stopped S t)) (is_some (task_of script S t)) parts.0 in
         let none = no-task script S t rows h in
         let some = ready.1 in absurd (cc)
@@ -217,7 +233,8 @@ no-action script S t Tick rows h able = refl
 no-action script S t Idle rows h able = refl
 
 -- it stays so
-gone-entry : (script : Script) (S : State) (place : ℕ) (e : Entry) (t : ObjNo) → IsShaped script → AreRows script S → IsDone script S place e → IsGone S t → IsGone (next script S e.actor) t
+gone-entry : (script : Script) (S : State) (place : ℕ) (e : Entry) (t : ObjNo) → IsShaped script → AreRows script S
+    → IsDone script S place e → IsGone S t → IsGone (next script S e.actor) t
 gone-entry script S place e t shaped rows done h = record {
   left = let le = (dies-entry script S place e shaped rows done).left t in let none = h.left in omega arith;
   paid = owed-next script S e.actor t shaped rows (no-action script S t e.actor rows h done.able) ∙ h.paid;
@@ -225,15 +242,24 @@ gone-entry script S place e t shaped rows done h = record {
 }
 
 gone-keeping : (S : State) (keep : Bool) (t : ObjNo) → IsGone S t → IsGone (keeping keep S) t
-gone-keeping S keep t h = record { left = h.left; paid = h.paid; bare = record { left = h.bare.left; held = h.bare.held; logged = h.bare.logged; owned = h.bare.owned } }
+gone-keeping S keep t h = record {
+  left = h.left;
+  paid = h.paid;
+  bare = record { left = h.bare.left; held = h.bare.held; logged = h.bare.logged; owned = h.bare.owned };
+}
 
-gone-by : (script : Script) (S : State) (place : ℕ) (e : Entry) (t : ObjNo) → IsShaped script → AreRows script S → IsNext script S place e → IsGone S t → IsGone (next_by script S e) t
+gone-by : (script : Script) (S : State) (place : ℕ) (e : Entry) (t : ObjNo) → IsShaped script → AreRows script S
+    → IsNext script S place e → IsGone S t → IsGone (next_by script S e) t
 gone-by script S place e t shaped rows here h =
-    gone-entry script (choosing e S) place e t shaped (rows-choosing script S e rows) (done-next script S place e here) (gone-keeping S (S.mode.shared && is_deathless e.effects) t h)
+    gone-entry script (choosing e S) place e t shaped (rows-choosing script S e rows) (done-next script S place e here)
+    (gone-keeping S (S.mode.shared && is_deathless e.effects) t h)
 
-pub gone-run : (script : Script) (S : State) (place : ℕ) (es : List Entry) (t : ObjNo) → IsShaped script → AreRows script S → IsLegalFrom script S place es → IsGone S t → IsGone (after_from script S es) t
+pub gone-run : (script : Script) (S : State) (place : ℕ) (es : List Entry) (t : ObjNo) → IsShaped script
+    → AreRows script S → IsLegalFrom script S place es → IsGone S t → IsGone (after_from script S es) t
 gone-run script S place [] t shaped rows legal h = h
-gone-run script S place (e ∷ es) t shaped rows legal h = gone-run script (next_by script S e) (place + 1) es t shaped (rows-by script S e shaped rows) legal.1 (gone-by script S place e t shaped rows legal.0 h)
+gone-run script S place (e ∷ es) t shaped rows legal h =
+    gone-run script (next_by script S e) (place + 1) es t shaped (rows-by script S e shaped rows) legal.1
+    (gone-by script S place e t shaped rows legal.0 h)
 
 -- and is so from its cleaning on
 gone-cleaned : (script : Script) (S : State) (e : Entry) (t : ObjNo) → AreRows script S → Cleans script S e t → IsGone (next script S e.actor) t
@@ -243,13 +269,21 @@ gone-cleaned script S e t rows c = record {
   bare = bare-cleaned script S e t rows c;
 }
 
-pub gone-after : (script : Script) (S : State) (place : ℕ) (es : List Entry) (t : ObjNo) → IsShaped script → AreRows script S → IsLegalFrom script S place es → 0 < cleanings es t → IsGone (after_from script S es) t
+pub gone-after : (script : Script) (S : State) (place : ℕ) (es : List Entry) (t : ObjNo) → IsShaped script
+    → AreRows script S → IsLegalFrom script S place es → 0 < cleanings es t → IsGone (after_from script S es) t
 gone-after script S place [] t shaped rows legal some = absurd (omega arith)
-gone-after script S place (e ∷ es) t shaped rows legal some = by (is_by t e.actor && is_clean e.step) refl some (gone-after script (next_by script S e) (place + 1) es t shaped rows_next legal.1)
+gone-after script S place (e ∷ es) t shaped rows legal some =
+    by (is_by t e.actor && is_clean e.step) refl some
+    (gone-after script (next_by script S e) (place + 1) es t shaped rows_next legal.1)
   where
     rows_next : AreRows script (next_by script S e)
     rows_next = rows-by script S e shaped rows
 
-    by : (b : Bool) → (is_by t e.actor && is_clean e.step) ≡ b → 0 < (if b then 1 else 0) + cleanings es t → (0 < cleanings es t → IsGone (after_from script (next_by script S e) es) t) → IsGone (after_from script (next_by script S e) es) t
-    by true is some more = gone-run script (next_by script S e) (place + 1) es t shaped rows_next legal.1 (gone-cleaned script (choosing e S) e t (rows-choosing script S e rows) (cleans script (choosing e S) place e t shaped (rows-choosing script S e rows) (done-next script S place e legal.0) is))
+    by : (b : Bool) → (is_by t e.actor && is_clean e.step) ≡ b → 0 < (if b then 1 else 0) + cleanings es t
+        → (0 < cleanings es t → IsGone (after_from script (next_by script S e) es) t)
+        → IsGone (after_from script (next_by script S e) es) t
+    by true is some more = gone-run script (next_by script S e) (place + 1) es t shaped rows_next legal.1
+        (gone-cleaned script (choosing e S) e t (rows-choosing script S e rows)
+        (cleans script (choosing e S) place e t shaped (rows-choosing script S e rows)
+        (done-next script S place e legal.0) is))
     by false is some more = more (omega arith)

@@ -59,11 +59,14 @@ empty-cleaning script S e t rows c =
       left = ap stage_left known.doomed;
       paid = known.paid;
       has = left;
-      owned = none-owned S (owned_by S.serving.owned t) (λ o some. rows.serving.servers.closing t.0 known.row o known.is (ap is_live known.doomed) some) left.servers;
+      owned =
+          none-owned S (owned_by S.serving.owned t)
+          (λ o some. rows.serving.servers.closing t.0 known.row o known.is (ap is_live known.doomed) some) left.servers;
     }
 
 -- it has no lock
-unlocked : (script : Script) (S : State) (t : ObjNo) (lock : LockNo) → AreRows script S → IsEmpty S t → lock_bit S.synchronization.nano.holders S.synchronization.mutexes t lock ≡ 0
+unlocked : (script : Script) (S : State) (t : ObjNo) (lock : LockNo) → AreRows script S → IsEmpty S t
+    → lock_bit S.synchronization.nano.holders S.synchronization.mutexes t lock ≡ 0
 unlocked script S t (Object o) rows h = ap (total (mutex_names o)) h.has.mutexes
 unlocked script S t (Fast f) rows h = unheld script S t f rows h.dead
 
@@ -76,17 +79,29 @@ no-slot-names false x slot e = ap (option_names x) e
 unheld-own : (script : Script) (S : State) (t : ObjNo) (h : Holder) (o : ObjNo) → AreRows script S → IsEmpty S t → is_own t h ≡ true → held_in S h o ≡ 0
 unheld-own script S t (InThread u i) o rows h own =
     let at : t ≡ u = sym (same_object u t (eqb-true u.0 t.0 own)) in
-    let slot = no-slot-names (not (is_some (thread_of S u))) o (slot_at (table_of S u) i) (ap (λ (v : ObjNo). (slot_at (table_of S v) i).object) (sym at) ∙ h.has.empty i) in
-    let owed = none_owed S.references.threads S.serving.servers S.serving.messages.accepted S.references.owed (InThread u i) o rows.references.duties (λ k y own. own) in omega arith
+    let slot = no-slot-names (not (is_some (thread_of S u))) o (slot_at (table_of S u) i)
+    (ap (λ (v : ObjNo). (slot_at (table_of S v) i).object) (sym at) ∙ h.has.empty i) in
+    let owed = none_owed S.references.threads S.serving.servers S.serving.messages.accepted S.references.owed
+    (InThread u i) o rows.references.duties (λ k y own. own) in
+    omega arith
 unheld-own script S t (Temp u) o rows h own =
     let at : t ≡ u = sym (same_object u t (eqb-true u.0 t.0 own)) in
-    let uses : use_names o (thread_of S u) ≡ 0 = ap (λ (v : ObjNo). use_names o (thread_of S v)) (sym at) ∙ (ap (use_names o) h.is ∙ ap (option_names o) h.has.unused) in
-    let owed = none_owed_by S.references.threads S.serving.servers S.serving.messages.accepted S.references.owed u (Temp u) o rows.references.duties (λ k y own. own) (ap (λ (v : ObjNo). total (owed_by (Temp u) o) (owed_of S v)) (sym at) ∙ ap (total (owed_by (Temp u) o)) h.paid) in omega arith
+    let uses : use_names o (thread_of S u) ≡ 0 = ap (λ (v : ObjNo). use_names o (thread_of S v)) (sym at)
+    ∙ (ap (use_names o) h.is ∙ ap (option_names o) h.has.unused) in
+    let owed = none_owed_by S.references.threads S.serving.servers S.serving.messages.accepted S.references.owed u
+    (Temp u) o rows.references.duties (λ k y own. own)
+    (ap (λ (v : ObjNo). total (owed_by (Temp u) o) (owed_of S v)) (sym at) ∙ ap (total (owed_by (Temp u) o)) h.paid) in
+    omega arith
 unheld-own script S t (Own u) o rows h own =
     let at : t ≡ u = sym (same_object u t (eqb-true u.0 t.0 own)) in
-    let held : times_held S.synchronization.mutexes u o ≡ 0 = ap (λ (v : ObjNo). times_held S.synchronization.mutexes v o) (sym at) ∙ ap (total (mutex_names o)) h.has.mutexes in
+    let held : times_held S.synchronization.mutexes u o
+    ≡ 0 = ap (λ (v : ObjNo). times_held S.synchronization.mutexes v o) (sym at)
+    ∙ ap (total (mutex_names o)) h.has.mutexes in
     let owned : times_owned S.serving.owned u o ≡ 0 = ap (λ (v : ObjNo). times_owned S.serving.owned v o) (sym at) ∙ ap (total (mutex_names o)) h.owned in
-    let owed = none_owed_by S.references.threads S.serving.servers S.serving.messages.accepted S.references.owed u (Own u) o rows.references.duties (λ k y own. own) (ap (λ (v : ObjNo). total (owed_by (Own u) o) (owed_of S v)) (sym at) ∙ ap (total (owed_by (Own u) o)) h.paid) in omega arith
+    let owed = none_owed_by S.references.threads S.serving.servers S.serving.messages.accepted S.references.owed u
+    (Own u) o rows.references.duties (λ k y own. own)
+    (ap (λ (v : ObjNo). total (owed_by (Own u) o) (owed_of S v)) (sym at) ∙ ap (total (owed_by (Own u) o)) h.paid) in
+    omega arith
 unheld-own script S t _ o rows h own = absurd (cc)
 
 -- numbers that are all 0
@@ -103,8 +118,14 @@ total-only f (x ∷ xs) (suc i) d none others =
     let rest = total-only f xs i d none (λ j apart. others (suc j) (λ e. apart (omega arith))) in omega arith
 
 -- no other thread of its process is left, where the others were cleaned
-pub alone : (shared : Bool) (script : Script) (before : List Entry) (t : ObjNo) (row : ThreadRow) → IsWellFormed script → IsLegalIn shared script before → Dies (boot_in shared script) (after_in shared script before) (effects_of before) → OthersAreCleaned script before row.process t → total (left_of row.process) (after_in shared script before).references.threads ≡ left_of row.process (thread_of (after_in shared script before) t)
-alone shared script before t row valid legal front others = total-only (left_of row.process) S.references.threads t.0 None refl (λ j apart. by j apart (get_or S.references.threads j None) refl)
+pub alone : (shared : Bool) (script : Script) (before : List Entry) (t : ObjNo) (row : ThreadRow) → IsWellFormed script
+    → IsLegalIn shared script before → Dies (boot_in shared script) (after_in shared script before) (effects_of before)
+    → OthersAreCleaned script before row.process t
+    → total (left_of row.process) (after_in shared script before).references.threads
+    ≡ left_of row.process (thread_of (after_in shared script before) t)
+alone shared script before t row valid legal front others =
+    total-only (left_of row.process) S.references.threads t.0 None refl
+    (λ j apart. by j apart (get_or S.references.threads j None) refl)
   where
     S : State
     S = after_in shared script before
@@ -126,30 +147,43 @@ alone shared script before t row valid legal front others = total-only (left_of 
         test true e = gone j r apart is (eqb-true r.process.0 row.process.0 e)
 
 -- then its process's table is empty
-pub handles-none : (S : State) (t p : ObjNo) → total (left_of p) S.references.threads ≡ left_of p (thread_of S t) → process_handles S t p ≡ [] → (i : ℕ) → (slot_at (table_of S p) i).object ≡ None
-handles-none S t p only none = by (total (left_of p) S.references.threads == left_of p (thread_of S t)) (eq-eqb (total (left_of p) S.references.threads) (left_of p (thread_of S t)) only) none
+pub handles-none : (S : State) (t p : ObjNo) → total (left_of p) S.references.threads ≡ left_of p (thread_of S t)
+    → process_handles S t p ≡ [] → (i : ℕ) → (slot_at (table_of S p) i).object ≡ None
+handles-none S t p only none =
+    by (total (left_of p) S.references.threads == left_of p (thread_of S t))
+    (eq-eqb (total (left_of p) S.references.threads) (left_of p (thread_of S t)) only) none
   where
     by : (b : Bool) → b ≡ true → (if b then held_handles (InProcess p) 0 (table_of S p) else []) ≡ [] → (i : ℕ) → (slot_at (table_of S p) i).object ≡ None
     by true e none = no-handles (InProcess p) 0 (table_of S p) none
     by false e none = absurd (cc)
 
-table-free : {script : Script} (S : State) (p : ObjNo) (i : ℕ) (o : ObjNo) → (slot_at (table_of S p) i).object ≡ None → AreRows script S → held_in S (InProcess p i) o ≡ 0
+table-free : {script : Script} (S : State) (p : ObjNo) (i : ℕ) (o : ObjNo) → (slot_at (table_of S p) i).object ≡ None
+    → AreRows script S → held_in S (InProcess p i) o ≡ 0
 table-free S p i o none rows =
     let slot = no-slot-names (is_some (thread_of S p)) o (slot_at (table_of S p) i) none in
-    let owed = none_owed S.references.threads S.serving.servers S.serving.messages.accepted S.references.owed (InProcess p i) o rows.references.duties (λ k y own. own) in omega arith
+    let owed = none_owed S.references.threads S.serving.servers S.serving.messages.accepted S.references.owed
+    (InProcess p i) o rows.references.duties (λ k y own. own) in
+    omega arith
 
-pub clean-leaves : (shared : Bool) (script : Script) (history : List Entry) (t : ObjNo) → IsWellFormed script → IsLegalIn shared script history → CleanLeaves script history t
+pub clean-leaves : (shared : Bool) (script : Script) (history : List Entry) (t : ObjNo) → IsWellFormed script
+    → IsLegalIn shared script history → CleanLeaves script history t
 clean-leaves shared script history t valid legal = record {
   locks = λ before e later lock is some.
       let c = cut shared script history before e later valid legal is in
       let S = choosing e (after_in shared script before) in
-      let free : lock_bit (after_in shared script before).synchronization.nano.holders (after_in shared script before).synchronization.mutexes t lock ≡ 0 = unlocked script S t lock c.rows_done (empty-cleaning script S e t c.rows_done (cleans-here shared script before e later t (formed_is_shaped script valid) c some)) in
+      let free : lock_bit (after_in shared script before).synchronization.nano.holders
+      (after_in shared script before).synchronization.mutexes t lock ≡ 0 =
+      unlocked script S t lock c.rows_done (empty-cleaning script S e t c.rows_done
+      (cleans-here shared script before e later t (formed_is_shaped script valid) c some)) in
       let start = unlocked-boot script t lock in
       let moves = c.front.locks t lock in omega arith;
   own = λ before e later h o is some own.
       let c = cut shared script history before e later valid legal is in
       let S = choosing e (after_in shared script before) in
-      sym (held_as_told shared script before valid c.legal_before h o) ∙ unheld-own script S t h o c.rows_done (empty-cleaning script S e t c.rows_done (cleans-here shared script before e later t (formed_is_shaped script valid) c some)) own;
+      sym (held_as_told shared script before valid c.legal_before h o)
+      ∙ unheld-own script S t h o c.rows_done
+      (empty-cleaning script S e t c.rows_done
+      (cleans-here shared script before e later t (formed_is_shaped script valid) c some)) own;
   handles = λ before e later row i o is some at others.
       let c = cut shared script history before e later valid legal is in
       let S = choosing e (after_in shared script before) in

@@ -68,10 +68,14 @@ is_death (Death m) = true
 is_death _ = false
 
 -- every other one leaves stages
-pub keeps-move : (script : Script) (S : State) (t : ObjNo) (m : Move) → FitsMove script t m S → is_death m ≡ false → KeepsRows S.references.threads (moved t m S).references.threads
+pub keeps-move : (script : Script) (S : State) (t : ObjNo) (m : Move) → FitsMove script t m S → is_death m ≡ false
+    → KeepsRows S.references.threads (moved t m S).references.threads
 keeps-move script S t (Make kind name h) fits other = keeps-gain h (next_object S) S.references.threads
 keeps-move script S t (Gain h o) fits other = keeps-gain h o S.references.threads
-keeps-move script S t (Lose h o) fits other = keeps-then S.references.threads (threads_lose h S.references.threads) (threads_closed (dies S o) o (threads_lose h S.references.threads)) (keeps-lose h S.references.threads) (keeps-closed (dies S o) o (threads_lose h S.references.threads))
+keeps-move script S t (Lose h o) fits other =
+    keeps-then S.references.threads (threads_lose h S.references.threads)
+    (threads_closed (dies S o) o (threads_lose h S.references.threads)) (keeps-lose h S.references.threads)
+    (keeps-closed (dies S o) o (threads_lose h S.references.threads))
 keeps-move script S t (Find u o) fits other = keeps-with_row S.references.threads u (with_found o) (λ row. refl) (λ row. refl)
 keeps-move script S t (Open u o part) fits other = keeps-with_row S.references.threads u (with_opened o part) (λ row. refl) (λ row. refl)
 keeps-move script S t (Miss u o) fits other = keeps-with_row S.references.threads u with_missed (λ row. refl) (λ row. refl)
@@ -130,7 +134,10 @@ is-left (Some row) there unspent none = by row.stage (unspent row refl) none
 -- a holder that may get a reference gets some
 free-apart : (S : State) (g : Holder) → IsFree S g → IsBarred S g → ⊥
 free-apart S (InThread u i) free none = is-left (thread_of S u) free.0 free.2 none
-free-apart S (Temp u) free none = is-left (thread_of S u) (ap is_some free.is) (λ row is. let same_row : free.row ≡ row = (let a = free.is in cc) in subst (λ (r : ThreadRow). is_spent r.stage ≡ false) same_row free.unspent) none
+free-apart S (Temp u) free none =
+    is-left (thread_of S u) (ap is_some free.is)
+    (λ row is. let same_row : free.row ≡ row = (let a = free.is in cc) in
+    subst (λ (r : ThreadRow). is_spent r.stage ≡ false) same_row free.unspent) none
 free-apart S (InProcess p i) free none = let some = free.2 in omega arith
 free-apart S _ free none = free
 
@@ -151,7 +158,8 @@ make-gains S (Own u) o may h x none = let a = gains-own S u o may.owner h x none
 make-gains S g o may h x none = plus-gains S g o may h x none
 
 -- who comes back isn't cleaned
-open-gains : (script : Script) (S : State) (u o : ObjNo) (part : Part) → AreRows script S → MayOpen S u o (Some part) → GainsNone S (effect.Plus (Temp u) o ∷ [])
+open-gains : (script : Script) (S : State) (u o : ObjNo) (part : Part) → AreRows script S → MayOpen S u o (Some part)
+    → GainsNone S (effect.Plus (Temp u) o ∷ [])
 open-gains script S u o part rows may h x none = let a = foreign S (Temp u) h o x (is-left (thread_of S u) (ap is_some may.back.is) unspent) none in omega arith
   where
     unspent : (row : ThreadRow) → thread_of S u ≡ Some row → is_spent row.stage ≡ false
@@ -162,14 +170,18 @@ open-gains script S u o part rows may h x none = let a = foreign S (Temp u) h o 
 
         by : (b : Bool) → is_spent row.stage ≡ b → b ≡ false
         by false e = refl
-        by true e = let back = (rows.references.spent.rows u.0 row is e).going in let out = may.back.returns in let same = ap (λ (r : ThreadRow). is_returning r.part) same_row in cc
+        by true e = let back = (rows.references.spent.rows u.0 row is e).going in let out = may.back.returns in
+            let same = ap (λ (r : ThreadRow). is_returning r.part) same_row in cc
 
 -- rows change that tell of nothing
-dies-row : (S T : State) → KeepsRows S.references.threads T.references.threads → T.synchronization.nano.holders ≡ S.synchronization.nano.holders → T.synchronization.mutexes ≡ S.synchronization.mutexes → Dies S T []
+dies-row : (S T : State) → KeepsRows S.references.threads T.references.threads
+    → T.synchronization.nano.holders ≡ S.synchronization.nano.holders
+    → T.synchronization.mutexes ≡ S.synchronization.mutexes → Dies S T []
 dies-row S T rows holders mutexes = dies-calm S T [] rows holders mutexes calm-none (λ h o none. refl)
 
 -- a signal is a live thread's
-dies-signal : (S : State) (r : RequestRows) (u : ObjNo) (s : StatusNo) (code : ℤ) → IsLiveThread S.references.threads u → Dies S (record S { synchronization = record S.synchronization { requests = r } }) (effect.Signal u s code ∷ [])
+dies-signal : (S : State) (r : RequestRows) (u : ObjNo) (s : StatusNo) (code : ℤ) → IsLiveThread S.references.threads u
+    → Dies S (record S { synchronization = record S.synchronization { requests = r } }) (effect.Signal u s code ∷ [])
 dies-signal S r u s code live = record {
   live = λ v. omega arith;
   left = λ v. omega arith;
@@ -181,35 +193,46 @@ dies-signal S r u s code live = record {
   were = (keeps-same S.references.threads).were;
 }
 
-dies-request : (script : Script) (S : State) (t : ObjNo) (m : RequestMove) → AreRows script S → FitsMove script t (Requests m) S → Dies S (moved t (Requests m) S) (request_told m)
-dies-request script S t (Complete d u s code) rows fits = dies-signal S (request_moved (Complete d u s code) S.synchronization.requests) u (Async s) code (rows.synchronization.awaited.requests d _ fits.0.1)
+dies-request : (script : Script) (S : State) (t : ObjNo) (m : RequestMove) → AreRows script S
+    → FitsMove script t (Requests m) S → Dies S (moved t (Requests m) S) (request_told m)
+dies-request script S t (Complete d u s code) rows fits =
+    dies-signal S (request_moved (Complete d u s code) S.synchronization.requests) u (Async s) code
+    (rows.synchronization.awaited.requests d _ fits.0.1)
 dies-request script S t (Signal u s code) rows fits = dies-signal S (request_moved (Signal u s code) S.synchronization.requests) u (Async s) code fits.1.0
 dies-request script S t (Reply u code) rows fits = dies-signal S (request_moved (Reply u code) S.synchronization.requests) u Sync code fits.1
 dies-request script S t m rows fits = dies-row S (moved t (Requests m) S) (keeps-same S.references.threads) refl refl
 
 -- servers and messages tell of no thread
 dies-servers : (S : State) (t : ObjNo) (m : ServerMove) → Dies S (moved t (Servers m) S) (server_told m)
-dies-servers S t (Join s o slots u) = dies-calm S _ _ (keeps-same S.references.threads) refl refl (calm-plus (Link s) o) (λ h x none. let a = foreign S (Link s) h o x (λ e. e) none in omega arith)
+dies-servers S t (Join s o slots u) =
+    dies-calm S _ _ (keeps-same S.references.threads) refl refl (calm-plus (Link s) o)
+    (λ h x none. let a = foreign S (Link s) h o x (λ e. e) none in omega arith)
 dies-servers S t (End o) = dies-calm S _ _ (keeps-same S.references.threads) refl refl (calm-ended o) (λ h x none. refl)
 dies-servers S t m = dies-row S (moved t (Servers m) S) (keeps-same S.references.threads) refl refl
 
 dies-messages : (S : State) (t : ObjNo) (m : MessageMove) → Dies S (moved t (Messages m) S) (message_told m S.serving.messages)
 dies-messages S t (Accept slots row) =
     let n = next_number S.serving.messages in
-    dies-calm S _ _ (keeps-same S.references.threads) refl refl (calm-accepted n row.session row.client) (λ h x none. let a = foreign S (Message n) h row.session x (λ e. e) none in let b = foreign S (Message n) h row.client x (λ e. e) none in omega arith)
+    dies-calm S _ _ (keeps-same S.references.threads) refl refl (calm-accepted n row.session row.client)
+    (λ h x none. let a = foreign S (Message n) h row.session x (λ e. e) none in
+    let b = foreign S (Message n) h row.client x (λ e. e) none in omega arith)
 dies-messages S t (Finish n code) = dies-calm S _ _ (keeps-same S.references.threads) refl refl (calm-finished n code) (λ h x none. refl)
 dies-messages S t m = dies-row S (moved t (Messages m) S) (keeps-same S.references.threads) refl refl
 
 -- a row goes on to another stage
 dies-death : (script : Script) (S : State) (t : ObjNo) (m : DeathMove) → FitsMove script t (Death m) S → Dies S (moved t (Death m) S) (death_told m)
-dies-death script S t (Note u exit) fits = dies-row S (moved t (Death (Note u exit)) S) (keeps-with_row S.references.threads u (death_row (Note u exit)) (λ row. refl) (λ row. refl)) refl refl
+dies-death script S t (Note u exit) fits =
+    dies-row S (moved t (Death (Note u exit)) S)
+    (keeps-with_row S.references.threads u (death_row (Note u exit)) (λ row. refl) (λ row. refl)) refl refl
 dies-death script S t (Doom u exit) fits =
     let at = fits.0 in
     let f = death_row (Doom u exit) in
     record {
       live = λ v. let a = bit-less stage_live S.references.threads u f at.row 1 at.is (sym (ap stage_live at.at)) v in omega arith;
       left = λ v. let a = bit-less stage_left S.references.threads u f at.row 0 at.is (sym (ap stage_left at.at)) v in omega arith;
-      held = λ v. let a = bit-less stage_holds S.references.threads u f at.row 0 at.is (sym (ap stage_holds at.at)) v in let b = if_zero (u.0 == v.0) 0 refl in omega arith;
+      held =
+          λ v. let a = bit-less stage_holds S.references.threads u f at.row 0 at.is (sym (ap stage_holds at.at)) v in
+          let b = if_zero (u.0 == v.0) 0 refl in omega arith;
       locks = λ v lock. refl;
       takes_none = λ v lock none. refl;
       signals_none = λ v none. refl;
@@ -220,9 +243,13 @@ dies-death script S t (Clean u) fits =
     let at = fits.0 in
     let f = death_row (Clean u) in
     record {
-      live = λ v. let a = bit-less stage_live S.references.threads u f at.row 0 at.is (sym (ap stage_live at.at)) v in let b = if_zero (u.0 == v.0) 0 refl in omega arith;
+      live =
+          λ v. let a = bit-less stage_live S.references.threads u f at.row 0 at.is (sym (ap stage_live at.at)) v in
+          let b = if_zero (u.0 == v.0) 0 refl in omega arith;
       left = λ v. let a = bit-less stage_left S.references.threads u f at.row 1 at.is (sym (ap stage_left at.at)) v in omega arith;
-      held = λ v. let a = bit-less stage_holds S.references.threads u f at.row 0 at.is (sym (ap stage_holds at.at)) v in let b = if_zero (u.0 == v.0) 0 refl in omega arith;
+      held =
+          λ v. let a = bit-less stage_holds S.references.threads u f at.row 0 at.is (sym (ap stage_holds at.at)) v in
+          let b = if_zero (u.0 == v.0) 0 refl in omega arith;
       locks = λ v lock. refl;
       takes_none = λ v lock none. refl;
       signals_none = λ v none. refl;
@@ -233,7 +260,9 @@ dies-death script S t (Bury u) fits =
     let at = fits.0 in
     let f = death_row (Bury u) in
     record {
-      live = λ v. let a = bit-less stage_live S.references.threads u f at.row 0 at.is (sym (ap stage_live at.at)) v in let b = if_zero (u.0 == v.0) 0 refl in omega arith;
+      live =
+          λ v. let a = bit-less stage_live S.references.threads u f at.row 0 at.is (sym (ap stage_live at.at)) v in
+          let b = if_zero (u.0 == v.0) 0 refl in omega arith;
       left = λ v. let a = bit-less stage_left S.references.threads u f at.row 0 at.is (sym (ap stage_left at.at)) v in omega arith;
       held = λ v. let a = bit-less stage_holds S.references.threads u f at.row 1 at.is (sym (ap stage_holds at.at)) v in omega arith;
       locks = λ v lock. refl;
@@ -245,11 +274,17 @@ dies-death script S t (Bury u) fits =
 
 -- what a move tells that fits
 pub dies-move : (script : Script) (S : State) (t : ObjNo) (m : Move) → AreRows script S → FitsMove script t m S → Dies S (moved t m S) (told m S)
-dies-move script S t (Make kind name h) rows fits = dies-calm S _ _ (keeps-move script S t (Make kind name h) fits refl) refl refl (calm-plus h (next_object S)) (make-gains S h (next_object S) fits.1)
+dies-move script S t (Make kind name h) rows fits =
+    dies-calm S _ _ (keeps-move script S t (Make kind name h) fits refl) refl refl (calm-plus h (next_object S))
+    (make-gains S h (next_object S) fits.1)
 dies-move script S t (Gain h o) rows fits = dies-calm S _ _ (keeps-move script S t (Gain h o) fits refl) refl refl (calm-plus h o) (plus-gains S h o fits.0)
-dies-move script S t (Lose h o) rows fits = dies-calm S _ _ (keeps-move script S t (Lose h o) fits refl) refl refl (calm-close (dies S o) h o) (close-gains S (dies S o) h o)
+dies-move script S t (Lose h o) rows fits =
+    dies-calm S _ _ (keeps-move script S t (Lose h o) fits refl) refl refl (calm-close (dies S o) h o)
+    (close-gains S (dies S o) h o)
 dies-move script S t (Find u o) rows fits = dies-calm S _ _ (keeps-move script S t (Find u o) fits refl) refl refl (calm-found o) (λ h x none. refl)
-dies-move script S t (Open u o part) rows fits = dies-calm S _ _ (keeps-move script S t (Open u o part) fits refl) refl refl (calm-plus (Temp u) o) (open-gains script S u o part rows fits.0)
+dies-move script S t (Open u o part) rows fits =
+    dies-calm S _ _ (keeps-move script S t (Open u o part) fits refl) refl refl (calm-plus (Temp u) o)
+    (open-gains script S u o part rows fits.0)
 dies-move script S t (Miss u o) rows fits = dies-calm S _ _ (keeps-move script S t (Miss u o) fits refl) refl refl (calm-missed o) (λ h x none. refl)
 dies-move script S t (Nano m) rows fits = dies-nano script S t m fits
 dies-move script S t (Requests m) rows fits = dies-request script S t m rows fits
@@ -261,8 +296,11 @@ dies-move script S t (Pay what) rows fits = absurd fits
 dies-move script S t m rows fits = dies-row S (moved t m S) (keeps-move script S t m fits refl) refl refl
 
 -- and what a payment tells
-pub dies-pay : (script : Script) (S : State) (t : ObjNo) (what : Owed) (rest : List Owed) → owed_of S t ≡ what ∷ rest → t.0 < length S.references.owed → AreRows script S → Dies S (moved t (Pay what) S) (told (Pay what) S)
-dies-pay script S t (Close h o) rest owes here rows = dies-calm S _ _ (keeps-closed (dies S o) o S.references.threads) refl refl (calm-close (dies S o) h o) (close-gains S (dies S o) h o)
+pub dies-pay : (script : Script) (S : State) (t : ObjNo) (what : Owed) (rest : List Owed) → owed_of S t ≡ what ∷ rest
+    → t.0 < length S.references.owed → AreRows script S → Dies S (moved t (Pay what) S) (told (Pay what) S)
+dies-pay script S t (Close h o) rest owes here rows =
+    dies-calm S _ _ (keeps-closed (dies S o) o S.references.threads) refl refl (calm-close (dies S o) h o)
+    (close-gains S (dies S o) h o)
 dies-pay script S t (Sweep o) rest owes here rows =
     let unheld : row_bit stage_holds (thread_of S o) ≡ 0 = sym (held-is (thread_of S o)) ∙ sweep-unheld script S t o rest owes here rows in
     let left : row_bit stage_left (thread_of S o) ≡ 0 = (let le = left-held (thread_of S o) in omega arith) in

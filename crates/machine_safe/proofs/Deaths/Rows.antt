@@ -78,15 +78,24 @@ keeps-same threads = record { stages = λ b k. refl; were = λ k row is. record 
 pub keeps-then : (threads other third : List (Option ThreadRow)) → KeepsRows threads other → KeepsRows other third → KeepsRows threads third
 keeps-then threads other third h g = record {
   stages = λ b k. g.stages b k ∙ h.stages b k;
-  were = λ k row is. let one = g.were k row is in let two = h.were k one.old one.was in record { old = two.old; was = two.was; process = two.process ∙ one.process };
+  were =
+      λ k row is. let one = g.were k row is in let two = h.were k one.old one.was in
+      record { old = two.old; was = two.was; process = two.process ∙ one.process };
 }
 
 -- a change of a row that leaves its process
-pub were-with_row : (threads : List (Option ThreadRow)) (u : ObjNo) (f : ThreadRow → ThreadRow) → ((row : ThreadRow) → (f row).process ≡ row.process) → (k : ℕ) (row : ThreadRow) → get_or (with_row threads u f) k None ≡ Some row → WasIn threads k row
-were-with_row threads u f process k row is = was_row threads u f (λ (n : ℕ) (r : ThreadRow). WasIn threads n r) (λ old was. record { old = old; was = was; process = sym (process old) }) (λ n r is. record { old = r; was = is; process = refl }) k row is
+pub were-with_row : (threads : List (Option ThreadRow)) (u : ObjNo) (f : ThreadRow → ThreadRow)
+    → ((row : ThreadRow) → (f row).process ≡ row.process) → (k : ℕ) (row : ThreadRow)
+    → get_or (with_row threads u f) k None ≡ Some row → WasIn threads k row
+were-with_row threads u f process k row is =
+    was_row threads u f (λ (n : ℕ) (r : ThreadRow). WasIn threads n r)
+    (λ old was. record { old = old; was = was; process = sym (process old) })
+    (λ n r is. record { old = r; was = is; process = refl }) k row is
 
 -- and its stage
-pub keeps-with_row : (threads : List (Option ThreadRow)) (u : ObjNo) (f : ThreadRow → ThreadRow) → ((row : ThreadRow) → (f row).stage ≡ row.stage) → ((row : ThreadRow) → (f row).process ≡ row.process) → KeepsRows threads (with_row threads u f)
+pub keeps-with_row : (threads : List (Option ThreadRow)) (u : ObjNo) (f : ThreadRow → ThreadRow)
+    → ((row : ThreadRow) → (f row).stage ≡ row.stage) → ((row : ThreadRow) → (f row).process ≡ row.process)
+    → KeepsRows threads (with_row threads u f)
 keeps-with_row threads u f stage process = record {
   stages = λ b k. elim (cases_eq u.0 k) as (λ _. row_bit b (get_or (with_row threads u f) k None) ≡ row_bit b (get_or threads k None)) [
     | inl at ↦ ap (row_bit b) (row-here threads u f k at) ∙ mapped b (get_or threads u.0 None) ∙ ap (λ (n : ℕ). row_bit b (get_or threads n None)) at
@@ -100,23 +109,32 @@ keeps-with_row threads u f stage process = record {
     mapped b (Some row) = ap b (stage row)
 
 -- the change of a row that makes its number less
-pub bit-less : (b : Stage → ℕ) (threads : List (Option ThreadRow)) (u : ObjNo) (f : ThreadRow → ThreadRow) (row : ThreadRow) (n : ℕ) → get_or threads u.0 None ≡ Some row → b (f row).stage + n ≡ b row.stage → (k : ObjNo) → row_bit b (get_or (with_row threads u f) k.0 None) + (if u.0 == k.0 then n else 0) ≡ row_bit b (get_or threads k.0 None)
-bit-less b threads u f row n is less k = elim (cases_eq u.0 k.0) as (λ _. row_bit b (get_or (with_row threads u f) k.0 None) + (if u.0 == k.0 then n else 0) ≡ row_bit b (get_or threads k.0 None)) [
-  | inl at ↦
-      let new : row_bit b (get_or (with_row threads u f) k.0 None) ≡ b (f row).stage = ap (row_bit b) (row-here threads u f k.0 at ∙ ap (option_map f) is) in
-      let old : row_bit b (get_or threads k.0 None) ≡ b row.stage = ap (row_bit b) (ap (λ (m : ℕ). get_or threads m None) (sym at) ∙ is) in
-      let own = if_is (u.0 == k.0) n (eq-eqb u.0 k.0 at) in omega arith
-  | inr apart ↦
-      let same : row_bit b (get_or (with_row threads u f) k.0 None) ≡ row_bit b (get_or threads k.0 None) = ap (row_bit b) (row-other threads u f k.0 apart) in
-      let none = if_not (u.0 == k.0) n (eqb_apart u.0 k.0 apart) in omega arith
-]
+pub bit-less : (b : Stage → ℕ) (threads : List (Option ThreadRow)) (u : ObjNo) (f : ThreadRow → ThreadRow)
+    (row : ThreadRow) (n : ℕ)
+    → get_or threads u.0 None ≡ Some row → b (f row).stage + n ≡ b row.stage → (k : ObjNo)
+    → row_bit b (get_or (with_row threads u f) k.0 None) + (if u.0 == k.0 then n else 0)
+    ≡ row_bit b (get_or threads k.0 None)
+bit-less b threads u f row n is less k =
+    elim (cases_eq u.0 k.0) as (λ _. row_bit b (get_or (with_row threads u f) k.0 None) + (if u.0 == k.0 then n else 0)
+    ≡ row_bit b (get_or threads k.0 None)) [
+      | inl at ↦
+          let new : row_bit b (get_or (with_row threads u f) k.0 None) ≡ b (f row).stage = ap (row_bit b) (row-here threads u f k.0 at ∙ ap (option_map f) is) in
+          let old : row_bit b (get_or threads k.0 None) ≡ b row.stage = ap (row_bit b) (ap (λ (m : ℕ). get_or threads m None) (sym at) ∙ is) in
+          let own = if_is (u.0 == k.0) n (eq-eqb u.0 k.0 at) in omega arith
+      | inr apart ↦
+          let same : row_bit b (get_or (with_row threads u f) k.0 None) ≡ row_bit b (get_or threads k.0 None) = ap (row_bit b) (row-other threads u f k.0 apart) in
+          let none = if_not (u.0 == k.0) n (eqb_apart u.0 k.0 apart) in omega arith
+    ]
 
 -- a row whose number is 0 goes
-pub bit-swept : (b : Stage → ℕ) (threads : List (Option ThreadRow)) (o k : ℕ) → row_bit b (get_or threads o None) ≡ 0 → row_bit b (get_or (set threads o None) k None) ≡ row_bit b (get_or threads k None)
-bit-swept b threads o k none = elim (set_either threads o None k None) as (λ _. row_bit b (get_or (set threads o None) k None) ≡ row_bit b (get_or threads k None)) [
-  | inl at ↦ ap (row_bit b) at.1 ∙ (sym none ∙ ap (λ (n : ℕ). row_bit b (get_or threads n None)) (sym at.0))
-  | inr other ↦ ap (row_bit b) other
-]
+pub bit-swept : (b : Stage → ℕ) (threads : List (Option ThreadRow)) (o k : ℕ) → row_bit b (get_or threads o None) ≡ 0
+    → row_bit b (get_or (set threads o None) k None) ≡ row_bit b (get_or threads k None)
+bit-swept b threads o k none =
+    elim (set_either threads o None k None) as
+    (λ _. row_bit b (get_or (set threads o None) k None) ≡ row_bit b (get_or threads k None)) [
+      | inl at ↦ ap (row_bit b) at.1 ∙ (sym none ∙ ap (λ (n : ℕ). row_bit b (get_or threads n None)) (sym at.0))
+      | inr other ↦ ap (row_bit b) other
+    ]
 
 pub were-swept : (threads : List (Option ThreadRow)) (o k : ℕ) (row : ThreadRow) → get_or (set threads o None) k None ≡ Some row → WasIn threads k row
 were-swept threads o k row is = elim (set_either threads o None k None) as (λ _. WasIn threads k row) [

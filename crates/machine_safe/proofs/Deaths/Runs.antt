@@ -36,34 +36,45 @@ use Rattle.machine_safe.proofs.Deaths.Moves.{dies-move, dies-none, dies-pay}
 use Rattle.state_rows.specs.declared.duty.Owed.{Owed}
 
 -- moves that fit, one after the other
-pub each-dies : (script : Script) (S : State) (t : ObjNo) (ms : List Move) → EachFits script t ms S → total weight (owed_of S t) + total most_owed ms ≤ 12 → Sane script t S → Dies S (perform t ms S) (tell t ms S)
+pub each-dies : (script : Script) (S : State) (t : ObjNo) (ms : List Move) → EachFits script t ms S
+    → total weight (owed_of S t) + total most_owed ms ≤ 12 → Sane script t S → Dies S (perform t ms S) (tell t ms S)
 each-dies script S t [] fits few s = dies-none S
 each-dies script S t (m ∷ ms) fits few s =
     let T = moved t m S in
     let one = sound-move script S t m fits.0 (omega arith) s in
     let w = weight-move script S t m fits.0 in
-    dies-then S T (perform t ms T) (told m S) (tell t ms T) (dies-move script S t m s.rows fits.0) (each-dies script T t ms fits.1 (omega arith) (sane-after script S T t (told m S) s one))
+    dies-then S T (perform t ms T) (told m S) (tell t ms T) (dies-move script S t m s.rows fits.0)
+    (each-dies script T t ms fits.1 (omega arith) (sane-after script S T t (told m S) s one))
 
 dies-act : (script : Script) (S : State) (t : ObjNo) → IsShaped script → AreRows script S → Dies S (act script S t).state (act script S t).outcome.effects
 unfolding act
 dies-act script S t shaped rows = of_action script S t (λ (ms : List Move). Dies S (perform t ms S) (tell t ms S)) shaped rows
     (λ ms sane goes. each-dies script S t ms goes.each goes.few sane)
-    (λ what rest sane owes. subst (Dies S (moved t (move.Pay what) S)) (sym (append-nil (told (move.Pay what) S))) (dies-pay script S t what rest owes (let a = sane.inside in let b = rows.references.sized.duties in omega arith) rows)) (dies-none S)
+    (λ what rest sane owes. subst (Dies S (moved t (move.Pay what) S)) (sym (append-nil (told (move.Pay what) S)))
+    (dies-pay script S t what rest owes (let a = sane.inside in let b = rows.references.sized.duties in
+    omega arith) rows)) (dies-none S)
 
-dies-done : (script : Script) (S : State) (plan : Plan) → AreRows script S → Goes script supervisor S (decision_by script supervisor S plan).moves → Dies S (done_by script S plan).state (done_by script S plan).outcome.effects
-dies-done script S plan rows goes = each-dies script S supervisor (decision_by script supervisor S plan).moves goes.each goes.few (sane-supervisor script S rows)
+dies-done : (script : Script) (S : State) (plan : Plan) → AreRows script S
+    → Goes script supervisor S (decision_by script supervisor S plan).moves
+    → Dies S (done_by script S plan).state (done_by script S plan).outcome.effects
+dies-done script S plan rows goes =
+    each-dies script S supervisor (decision_by script supervisor S plan).moves goes.each goes.few
+    (sane-supervisor script S rows)
 
-dies-interrupt : (script : Script) (S : State) (k : ℕ) → IsShaped script → AreRows script S → Dies S (interrupt script S k).state (interrupt script S k).outcome.effects
+dies-interrupt : (script : Script) (S : State) (k : ℕ) → IsShaped script → AreRows script S
+    → Dies S (interrupt script S k).state (interrupt script S k).outcome.effects
 unfolding interrupt
 dies-interrupt script S k shaped rows = dies-done script S (Runs (Interrupt k)) rows (goes-interrupt script S k shaped rows)
 
 dies-immediate : (script : Script) (S : State) → IsShaped script → AreRows script S → Dies S (immediate script S).state (immediate script S).outcome.effects
 unfolding immediate
 dies-immediate script S shaped rows =
-    let found = next_immediate S.synchronization.deferred in dies-done script S (immediate_plan script S found) rows (goes-immediate script S found shaped rows refl)
+    let found = next_immediate S.synchronization.deferred in
+    dies-done script S (immediate_plan script S found) rows (goes-immediate script S found shaped rows refl)
 
 -- what an actor's action tells
-pub dies-next : (script : Script) (S : State) (actor : Actor) → IsShaped script → AreRows script S → Dies S (next script S actor) (transition script S actor).outcome.effects
+pub dies-next : (script : Script) (S : State) (actor : Actor) → IsShaped script → AreRows script S
+    → Dies S (next script S actor) (transition script S actor).outcome.effects
 dies-next script S (Thread t) shaped rows = dies-act script S t shaped rows
 dies-next script S (Irq k) shaped rows = dies-interrupt script S k shaped rows
 dies-next script S Idfc shaped rows = dies-immediate script S shaped rows
@@ -71,7 +82,8 @@ dies-next script S Tick shaped rows = dies-none S
 dies-next script S Idle shaped rows = dies-none S
 
 -- and what an entry does
-pub dies-entry : (script : Script) (S : State) (place : ℕ) (e : Entry) → IsShaped script → AreRows script S → IsDone script S place e → Dies S (next script S e.actor) e.effects
+pub dies-entry : (script : Script) (S : State) (place : ℕ) (e : Entry) → IsShaped script → AreRows script S
+    → IsDone script S place e → Dies S (next script S e.actor) e.effects
 dies-entry script S place e shaped rows done =
     let told : e.effects ≡ (transition script S e.actor).outcome.effects = ap (λ (x : Entry). x.effects) done.told in
     subst (λ (effects : List Effect). Dies S (next script S e.actor) effects) (sym told) (dies-next script S e.actor shaped rows)
@@ -90,19 +102,26 @@ dies-keeping S T keep effects h = record {
 }
 
 -- an entry of a legal history
-pub dies-by : (script : Script) (S : State) (place : ℕ) (e : Entry) → IsShaped script → AreRows script S → IsNext script S place e → Dies S (next_by script S e) e.effects
+pub dies-by : (script : Script) (S : State) (place : ℕ) (e : Entry) → IsShaped script → AreRows script S
+    → IsNext script S place e → Dies S (next_by script S e) e.effects
 dies-by script S place e shaped rows here =
-    dies-keeping S (next_by script S e) (S.mode.shared && is_deathless e.effects) e.effects (dies-entry script (choosing e S) place e shaped (rows-choosing script S e rows) (done-next script S place e here))
+    dies-keeping S (next_by script S e) (S.mode.shared && is_deathless e.effects) e.effects
+    (dies-entry script (choosing e S) place e shaped (rows-choosing script S e rows) (done-next script S place e here))
 
 -- and all of them
-pub dies-run : (script : Script) (S : State) (place : ℕ) (es : List Entry) → IsShaped script → AreRows script S → IsLegalFrom script S place es → Dies S (after_from script S es) (effects_of es)
+pub dies-run : (script : Script) (S : State) (place : ℕ) (es : List Entry) → IsShaped script → AreRows script S
+    → IsLegalFrom script S place es → Dies S (after_from script S es) (effects_of es)
 dies-run script S place [] shaped rows legal = dies-none S
 dies-run script S place (e ∷ es) shaped rows legal =
     let T = next_by script S e in
-    dies-then S T (after_from script T es) e.effects (effects_of es) (dies-by script S place e shaped rows legal.0) (dies-run script T (place + 1) es shaped (rows-by script S e shaped rows) legal.1)
+    dies-then S T (after_from script T es) e.effects (effects_of es) (dies-by script S place e shaped rows legal.0)
+    (dies-run script T (place + 1) es shaped (rows-by script S e shaped rows) legal.1)
 
 -- What each move keeps that fits, and each payment, is kept by an action.
-each-kept : (script : Script) (P : State → Type 0) → ((S : State) (t : ObjNo) (m : Move) → AreRows script S → FitsMove script t m S → P S → P (moved t m S)) → (S : State) (t : ObjNo) (ms : List Move) → EachFits script t ms S → total weight (owed_of S t) + total most_owed ms ≤ 12 → Sane script t S → P S → P (perform t ms S)
+each-kept : (script : Script) (P : State → Type 0)
+    → ((S : State) (t : ObjNo) (m : Move) → AreRows script S → FitsMove script t m S → P S → P (moved t m S))
+    → (S : State) (t : ObjNo) (ms : List Move) → EachFits script t ms S
+    → total weight (owed_of S t) + total most_owed ms ≤ 12 → Sane script t S → P S → P (perform t ms S)
 each-kept script P moves S t [] fits few s p = p
 each-kept script P moves S t (m ∷ ms) fits few s p =
     let one = sound-move script S t m fits.0 (omega arith) s in
@@ -111,14 +130,20 @@ each-kept script P moves S t (m ∷ ms) fits few s p =
 
 module _ (script : Script) (P : State → Type 0)
     (moves : (S : State) (t : ObjNo) (m : Move) → AreRows script S → FitsMove script t m S → P S → P (moved t m S))
-    (pays : (S : State) (t : ObjNo) (what : Owed) (rest : List Owed) → AreRows script S → owed_of S t ≡ what ∷ rest → t.0 < length S.references.owed → P S → P (moved t (move.Pay what) S)) where
+    (pays : (S : State) (t : ObjNo) (what : Owed) (rest : List Owed) → AreRows script S → owed_of S t ≡ what ∷ rest
+    → t.0 < length S.references.owed → P S → P (moved t (move.Pay what) S)) where
   kept-act : (S : State) (t : ObjNo) → IsShaped script → AreRows script S → P S → P (act script S t).state
   unfolding act
   kept-act S t shaped rows p = of_action script S t (λ (ms : List Move). P (perform t ms S)) shaped rows
-      (λ ms sane goes. each-kept script P moves S t ms goes.each goes.few sane p) (λ what rest sane owes. pays S t what rest rows owes (let a = sane.inside in let b = rows.references.sized.duties in omega arith) p) p
+      (λ ms sane goes. each-kept script P moves S t ms goes.each goes.few sane p)
+      (λ what rest sane owes. pays S t what rest rows owes
+      (let a = sane.inside in let b = rows.references.sized.duties in omega arith) p) p
 
-  kept-done : (S : State) (plan : Plan) → AreRows script S → Goes script supervisor S (decision_by script supervisor S plan).moves → P S → P (done_by script S plan).state
-  kept-done S plan rows goes p = each-kept script P moves S supervisor (decision_by script supervisor S plan).moves goes.each goes.few (sane-supervisor script S rows) p
+  kept-done : (S : State) (plan : Plan) → AreRows script S
+      → Goes script supervisor S (decision_by script supervisor S plan).moves → P S → P (done_by script S plan).state
+  kept-done S plan rows goes p =
+      each-kept script P moves S supervisor (decision_by script supervisor S plan).moves goes.each goes.few
+      (sane-supervisor script S rows) p
 
   kept-interrupt : (S : State) (k : ℕ) → IsShaped script → AreRows script S → P S → P (interrupt script S k).state
   unfolding interrupt
@@ -126,7 +151,9 @@ module _ (script : Script) (P : State → Type 0)
 
   kept-immediate : (S : State) → IsShaped script → AreRows script S → P S → P (immediate script S).state
   unfolding immediate
-  kept-immediate S shaped rows p = let found = next_immediate S.synchronization.deferred in kept-done S (immediate_plan script S found) rows (goes-immediate script S found shaped rows refl) p
+  kept-immediate S shaped rows p =
+      let found = next_immediate S.synchronization.deferred in
+      kept-done S (immediate_plan script S found) rows (goes-immediate script S found shaped rows refl) p
 
   pub kept-next : (S : State) (actor : Actor) → IsShaped script → AreRows script S → P S → P (next script S actor)
   kept-next S (Thread t) shaped rows p = kept-act S t shaped rows p

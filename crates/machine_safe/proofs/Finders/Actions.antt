@@ -107,24 +107,31 @@ returned S t row (instr.Connect name slots x) finds = returns-to S t row word.Co
 returned S t row i finds = absurd (cc)
 
 -- the return comes before all else
-pub return-first : (script : Script) (S : State) (t : ObjNo) (row : ThreadRow) (b : Bool) (at : Option Instr) (other : Option Task) (i : Instr) → b ≡ true → at ≡ Some i → decision_of_row script S t (Some row) (return_or b at other) ≡ return_of S t row i
+pub return-first : (script : Script) (S : State) (t : ObjNo) (row : ThreadRow) (b : Bool) (at : Option Instr)
+    (other : Option Task) (i : Instr)
+    → b ≡ true → at ≡ Some i → decision_of_row script S t (Some row) (return_or b at other) ≡ return_of S t row i
 return-first script S t row true (Some j) other i returns at = let same_instr : j ≡ i = cc in ap (return_of S t row) same_instr
 return-first script S t row true None other i returns at = absurd (cc)
 return-first script S t row false at other i returns is = absurd (cc)
 
-returning : (script : Script) (S : State) (t : ObjNo) (row : ThreadRow) → AtFinds script S → may_act script S t ≡ true → thread_of S t ≡ Some row → is_returning row.part ≡ true → Returned S t row (decision_of script S t)
+returning : (script : Script) (S : State) (t : ObjNo) (row : ThreadRow) → AtFinds script S → may_act script S t ≡ true
+    → thread_of S t ≡ Some row → is_returning row.part ≡ true → Returned S t row (decision_of script S t)
 returning script S t row at may is returns = by (instruction script row) refl
   where
     by : (x : Option Instr) → instruction script row ≡ x → Returned S t row (decision_of script S t)
     by None e = let found = at t row is returns in let none = ap finds_by_name e in absurd (cc)
     by (Some i) e =
-        let acts : decision_of script S t ≡ decision_of_row script S t (thread_of S t) (task_of script S t) = ap (λ (b : Bool). decision_where script b S t (task_of script S t)) may in
-        let there : decision_of_row script S t (thread_of S t) (task_of script S t) ≡ decision_of_row script S t (Some row) (task_of_row script S t (Some row)) = ap (λ (x : Option ThreadRow). decision_of_row script S t x (task_of_row script S t x)) is in
+        let acts : decision_of script S t ≡ decision_of_row script S t (thread_of S t) (task_of script S t) =
+        ap (λ (b : Bool). decision_where script b S t (task_of script S t)) may in
+        let there : decision_of_row script S t (thread_of S t) (task_of script S t)
+        ≡ decision_of_row script S t (Some row) (task_of_row script S t (Some row)) =
+        ap (λ (x : Option ThreadRow). decision_of_row script S t x (task_of_row script S t x)) is in
         subst (Returned S t row) (sym (acts ∙ (there ∙ return-first script S t row (is_returning row.part) (instruction script row) _ i returns e)))
         (returned S t row i (sym (ap finds_by_name e) ∙ at t row is returns))
 
 -- a find puts its thread out
-found-out : (script : Script) (S : State) (t : ObjNo) (ms : List Move) (o : ObjNo) → Doing script S t ms → AreRows script S → ms ≡ Find t o ∷ [] → seeks o (thread_of (perform t ms S) t) ≡ same o o
+found-out : (script : Script) (S : State) (t : ObjNo) (ms : List Move) (o : ObjNo) → Doing script S t ms
+    → AreRows script S → ms ≡ Find t o ∷ [] → seeks o (thread_of (perform t ms S) t) ≡ same o o
 found-out script S t ms o does rows is = ap (λ (l : List Move). seeks o (thread_of (perform t l S) t)) is ∙ by (subst (Doing script S t) is does)
   where
     by : Doing script S t (Find t o ∷ []) → seeks o (thread_of (perform t (Find t o ∷ []) S) t) ≡ same o o
@@ -165,9 +172,12 @@ module _ (script : Script) (S : State) (t : ObjNo) (shaped : IsShaped script) (r
   ]
 
   -- nobody finds what is alive without a reference, nor gets one to it, unless the thread is out on it
-  pub dormant-act : (o : ObjNo) → o.0 < length S.references.objects → gone S.references.objects o ≡ 0 → count_of S o ≡ 0 → seeks o (thread_of S t) ≡ 0 → (pluses (tell t d.moves S) o ≡ 0) × (finds (tell t d.moves S) o ≡ 0)
+  pub dormant-act : (o : ObjNo) → o.0 < length S.references.objects → gone S.references.objects o ≡ 0 → count_of S o ≡ 0
+      → seeks o (thread_of S t) ≡ 0 → (pluses (tell t d.moves S) o ≡ 0) × (finds (tell t d.moves S) o ≡ 0)
   dormant-act o inside alive none away =
-      let unfound = zero_or (total (find_bit o) d.moves) (λ some. let counted = (finding o some).counted (not_gone_alive S.references.objects o inside alive) in omega arith) in
+      let unfound = zero_or (total (find_bit o) d.moves)
+      (λ some. let counted = (finding o some).counted (not_gone_alive S.references.objects o inside alive) in
+      omega arith) in
       (plus-doing script S t d.moves does o inside none unfound (λ _. away), finds-tell t d.moves S o ∙ unfound)
 
   module _ (at : AtFinds script S) (may : may_act script S t ≡ true) where
@@ -184,12 +194,14 @@ module _ (script : Script) (S : State) (t : ObjNo) (shaped : IsShaped script) (r
         by (Some row) is = back row (is_returning row.part) is refl
 
     -- one that is out comes back: it opens an object that is alive
-    pub opens-act : (o : ObjNo) → o.0 < length S.references.objects → gone S.references.objects o ≡ 0 → 0 < seeks o (thread_of S t) → 0 < pluses_by (tell t d.moves S) (Temp t) o
+    pub opens-act : (o : ObjNo) → o.0 < length S.references.objects → gone S.references.objects o ≡ 0
+        → 0 < seeks o (thread_of S t) → 0 < pluses_by (tell t d.moves S) (Temp t) o
     opens-act o inside alive some =
         let out = out-on S t o some in
         let r = returning script S t out.row at may out.is out.returns in
         subst (λ (x : ObjNo). 0 < pluses_by (tell t d.moves S) (Temp t) x) out.found
-        (r.opens (subst (λ (x : ObjNo). is_open (object_of S x) ≡ true) (sym out.found) (alive-open (object_of S o) (not_gone_alive S.references.objects o inside alive))))
+        (r.opens (subst (λ (x : ObjNo). is_open (object_of S x) ≡ true) (sym out.found)
+        (alive-open (object_of S o) (not_gone_alive S.references.objects o inside alive))))
       where
         alive-open : (x : Option ObjectRow) → IsAlive x → is_open x ≡ true
         alive-open None alive = absurd alive
@@ -199,8 +211,11 @@ module _ (script : Script) (S : State) (t : ObjNo) (shaped : IsShaped script) (r
     pub misses-act : (o : ObjNo) → gone S.references.objects o ≡ 1 → 0 < seeks o (thread_of S t) → (x : ObjNo) → pluses (tell t d.moves S) x ≡ 0
     misses-act o dead some =
         let out = out-on S t o some in
-        (returning script S t out.row at may out.is out.returns).misses (by (found_object out.row) (is_open (object_of S (found_object out.row))) refl (ap (λ (x : ObjNo). object_of S x) out.found))
+        (returning script S t out.row at may out.is out.returns).misses
+        (by (found_object out.row) (is_open (object_of S (found_object out.row))) refl
+        (ap (λ (x : ObjNo). object_of S x) out.found))
       where
         by : (y : ObjNo) (b : Bool) → is_open (object_of S y) ≡ b → object_of S y ≡ object_of S o → b ≡ false
-        by y true e same_row = let alive = alive_not_gone S.references.objects o (subst IsAlive same_row (open_is_alive (object_of S y) e)) in absurd (omega arith)
+        by y true e same_row = let alive = alive_not_gone S.references.objects o
+            (subst IsAlive same_row (open_is_alive (object_of S y) e)) in absurd (omega arith)
         by y false e same_row = refl

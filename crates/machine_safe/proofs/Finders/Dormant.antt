@@ -78,14 +78,17 @@ find-told o _ = refl
 
 pub finds-tell : (t : ObjNo) (ms : List Move) (S : State) (o : ObjNo) → finds (tell t ms S) o ≡ total (find_bit o) ms
 finds-tell t ms S o =
-    finds-total (tell t ms S) o ∙ (tell-is (found_by o) (record { none = beside-none o }) t ms S ∙ total-same (told_by (found_by o)) (find_bit o) (find-told o) ms)
+    finds-total (tell t ms S) o
+    ∙ (tell-is (found_by o) (record { none = beside-none o }) t ms S
+    ∙ total-same (told_by (found_by o)) (find_bit o) (find-told o) ms)
 
 -- what has a reference is another object
 counted-other : (S : State) (x o : ObjNo) → 0 < count_of S x → count_of S o ≡ 0 → same x o ≡ 0
 counted-other S x o some none = zero_or (same x o) (λ at. let here = subst (λ (y : ObjNo). 0 < count_of S y) (same_is x o at) some in omega arith)
 
 -- who owns a lock holds it, so something refers to that
-owned-counted : (script : Script) (S : State) (x : ObjNo) (owner : Owner) → AreRows script S → owner_at S.synchronization.locks x ≡ Some owner → 0 < count_of S x
+owned-counted : (script : Script) (S : State) (x : ObjNo) (owner : Owner) → AreRows script S
+    → owner_at S.synchronization.locks x ≡ Some owner → 0 < count_of S x
 owned-counted script S x owner rows is =
     let held = rows.synchronization.locks.owned x owner is in
     let within = total_within (mutex_names x) S.synchronization.mutexes owner.thread.0 in omega arith
@@ -115,7 +118,8 @@ plus-pay S (Close h x) o = plus-closed (dies S x) h x o
 plus-pay S (Sweep x) o = refl
 
 -- No move that fits adds a reference to an object that was made and has none, but one by which somebody comes back to it.
-module _ (script : Script) (S : State) (t : ObjNo) (rows : AreRows script S) (o : ObjNo) (inside : o.0 < length S.references.objects) (none : count_of S o ≡ 0) where
+module _ (script : Script) (S : State) (t : ObjNo) (rows : AreRows script S) (o : ObjNo)
+    (inside : o.0 < length S.references.objects) (none : count_of S o ≡ 0) where
   plus-locks : (m : LockMove) → FitsLocks t m S → pluses (lock_told m) o ≡ 0
   plus-locks (lock.Lock x v Taken) fits = let other = counted-other S x o fits.counted none in omega arith
   plus-locks (lock.Unlock x v Freed) fits = refl
@@ -123,7 +127,9 @@ module _ (script : Script) (S : State) (t : ObjNo) (rows : AreRows script S) (o 
       let by = passed_by (owner_at S.synchronization.locks x) v w (best_waiter (priority_of S) S.synchronization.locks x) fits.1.answer in
       let other = counted-other S x o (owned-counted script S x by.0.own rows by.0.is) none in omega arith
   plus-locks (lock.Free x v None) fits = refl
-  plus-locks (lock.Free x v (Some w)) fits = let other = counted-other S x o (owned-counted script S x fits.1.owns.owner rows fits.1.owns.is) none in omega arith
+  plus-locks (lock.Free x v (Some w)) fits =
+      let other = counted-other S x o (owned-counted script S x fits.1.owns.owner rows fits.1.owns.is) none in
+      omega arith
   plus-locks _ fits = refl
 
   plus-servers : (m : ServerMove) → FitsServers m S → pluses (server_told m) o ≡ 0
@@ -132,7 +138,10 @@ module _ (script : Script) (S : State) (t : ObjNo) (rows : AreRows script S) (o 
   plus-servers _ fits = refl
 
   plus-messages : (m : MessageMove) → FitsMessages m S → pluses (message_told m S.serving.messages) o ≡ 0
-  plus-messages (message.Accept slots row) fits = let one = counted-other S row.session o fits.session none in let two = counted-other S row.client o fits.client none in omega arith
+  plus-messages (message.Accept slots row) fits =
+      let one = counted-other S row.session o fits.session none in
+      let two = counted-other S row.client o fits.client none in
+      omega arith
   plus-messages (message.Finish m code) fits = refl
   plus-messages _ fits = refl
 
@@ -143,7 +152,9 @@ module _ (script : Script) (S : State) (t : ObjNo) (rows : AreRows script S) (o 
   plus-none (Open v x part) fits away =
       let back = fits.0.back in
       let out : seeks o (thread_of S t) ≡ same x o =
-      ap (λ (y : ObjNo). seeks o (thread_of S y)) (sym fits.1) ∙ (ap (seeks o) back.is ∙ (if_is (is_returning back.row.part) (same (found_object back.row) o) back.returns ∙ ap (λ (y : ObjNo). same y o) back.found)) in
+      ap (λ (y : ObjNo). seeks o (thread_of S y)) (sym fits.1)
+      ∙ (ap (seeks o) back.is ∙ (if_is (is_returning back.row.part) (same (found_object back.row) o) back.returns
+      ∙ ap (λ (y : ObjNo). same y o) back.found)) in
       let gone = away (omega arith) in omega arith
   plus-none (Nano m) fits away = plus-nano m o
   plus-none (Requests m) fits away = plus-requests m o
@@ -155,7 +166,9 @@ module _ (script : Script) (S : State) (t : ObjNo) (rows : AreRows script S) (o 
   plus-none m fits away = refl
 
 -- nor do several, nor a payment, if the object isn't found among them
-plus-going : (script : Script) (S : State) (t : ObjNo) (ms : List Move) → IsGoing script S t ms → (o : ObjNo) → o.0 < length S.references.objects → count_of S o ≡ 0 → total (find_bit o) ms ≡ 0 → (0 < total turning_bit ms → seeks o (thread_of S t) ≡ 0) → pluses (tell t ms S) o ≡ 0
+plus-going : (script : Script) (S : State) (t : ObjNo) (ms : List Move) → IsGoing script S t ms → (o : ObjNo)
+    → o.0 < length S.references.objects → count_of S o ≡ 0 → total (find_bit o) ms ≡ 0
+    → (0 < total turning_bit ms → seeks o (thread_of S t) ≡ 0) → pluses (tell t ms S) o ≡ 0
 plus-going script S t [] h o inside none unfound away = refl
 plus-going script S t (m ∷ ms) h o inside none unfound away =
     let few = h.few in
@@ -164,14 +177,19 @@ plus-going script S t (m ∷ ms) h o inside none unfound away =
     let counts = lives.counts o in
     let made = lives.made in
     let out = seeks-le script S t m h.each.0 h.sane.rows o in
-    let rest = plus-going script (moved t m S) t ms (going-then script S t m ms h) o (omega arith) (omega arith) (omega arith) (λ some. let gone = away (omega arith) in omega arith) in
+    let rest = plus-going script (moved t m S) t ms (going-then script S t m ms h) o (omega arith) (omega arith)
+    (omega arith) (λ some. let gone = away (omega arith) in omega arith) in
     let both = pluses-append (told m S) (tell t ms (moved t m S)) o in omega arith
 
-pub plus-doing : (script : Script) (S : State) (t : ObjNo) (ms : List Move) → Doing script S t ms → (o : ObjNo) → o.0 < length S.references.objects → count_of S o ≡ 0 → total (find_bit o) ms ≡ 0 → (0 < total turning_bit ms → seeks o (thread_of S t) ≡ 0) → pluses (tell t ms S) o ≡ 0
+pub plus-doing : (script : Script) (S : State) (t : ObjNo) (ms : List Move) → Doing script S t ms → (o : ObjNo)
+    → o.0 < length S.references.objects → count_of S o ≡ 0 → total (find_bit o) ms ≡ 0
+    → (0 < total turning_bit ms → seeks o (thread_of S t) ≡ 0) → pluses (tell t ms S) o ≡ 0
 plus-doing script S t ms does o inside none unfound away = elim does as (λ _. pluses (tell t ms S) o ≡ 0) [
   | inl goes ↦ plus-going script S t ms goes o inside none unfound away
   | inr other ↦ elim other as (λ _. pluses (tell t ms S) o ≡ 0) [
-    | inl pays ↦ ap (λ (l : List Move). pluses (tell t l S) o) pays.moves ∙ (pluses-append (told (Pay pays.what) S) [] o ∙ (let first = plus-pay S pays.what o in omega arith))
+    | inl pays ↦
+        ap (λ (l : List Move). pluses (tell t l S) o) pays.moves
+        ∙ (pluses-append (told (Pay pays.what) S) [] o ∙ (let first = plus-pay S pays.what o in omega arith))
     | inr nothing ↦ ap (λ (l : List Move). pluses (tell t l S) o) nothing
   ]
 ]

@@ -51,13 +51,20 @@ pub record Turns (script : Script) (S T : State) (actor : Actor) (effects : List
   pub others : (u o : ObjNo) → is_by u actor ≡ false → seeks o (thread_of T u) ≡ seeks o (thread_of S u)
   pub own : (u o : ObjNo) → is_by u actor ≡ true → seeks o (thread_of T u) ≡ finds effects o
   -- who is out and acts opens an object that is alive, and gets nothing where it is gone
-  pub opens : (u o : ObjNo) → is_by u actor ≡ true → o.0 < length S.references.objects → gone S.references.objects o ≡ 0 → 0 < seeks o (thread_of S u) → 0 < pluses_by effects (Temp u) o
+  pub opens : (u o : ObjNo) → is_by u actor ≡ true → o.0 < length S.references.objects → gone S.references.objects o ≡ 0
+      → 0 < seeks o (thread_of S u) → 0 < pluses_by effects (Temp u) o
   pub misses : (u o : ObjNo) → is_by u actor ≡ true → gone S.references.objects o ≡ 1 → 0 < seeks o (thread_of S u) → (x : ObjNo) → pluses effects x ≡ 0
   -- nobody else finds an object that is alive without a reference, or gets one to it
-  pub dormant : (o : ObjNo) → o.0 < length S.references.objects → gone S.references.objects o ≡ 0 → count_of S o ≡ 0 → ((u : ObjNo) → is_by u actor ≡ true → seeks o (thread_of S u) ≡ 0) → (pluses effects o ≡ 0) × (finds effects o ≡ 0)
+  pub dormant : (o : ObjNo) → o.0 < length S.references.objects → gone S.references.objects o ≡ 0 → count_of S o ≡ 0
+      → ((u : ObjNo) → is_by u actor ≡ true → seeks o (thread_of S u) ≡ 0)
+      → (pluses effects o ≡ 0) × (finds effects o ≡ 0)
 
 -- nobody acts who is a thread
-turns-quiet : (script : Script) (S T : State) (actor : Actor) (effects : List Effect) → ((u : ObjNo) → is_by u actor ≡ false) → ((u o : ObjNo) → seeks o (thread_of T u) ≡ seeks o (thread_of S u)) → ((o : ObjNo) → o.0 < length S.references.objects → count_of S o ≡ 0 → (pluses effects o ≡ 0) × (finds effects o ≡ 0)) → Turns script S T actor effects
+turns-quiet : (script : Script) (S T : State) (actor : Actor) (effects : List Effect)
+    → ((u : ObjNo) → is_by u actor ≡ false) → ((u o : ObjNo) → seeks o (thread_of T u) ≡ seeks o (thread_of S u))
+    → ((o : ObjNo) → o.0 < length S.references.objects → count_of S o ≡ 0 → (pluses effects o ≡ 0)
+    × (finds effects o ≡ 0))
+    → Turns script S T actor effects
 turns-quiet script S T actor effects nobody same dormant = record {
   others = λ u o _. same u o;
   own = λ u o by. let not_by = nobody u in absurd (cc);
@@ -66,28 +73,40 @@ turns-quiet script S T actor effects nobody same dormant = record {
   dormant = λ o inside alive none away. dormant o inside none;
 }
 
-turns-light : (script : Script) (S : State) (actor : Actor) (plan : Plan) → AreRows script S → ((u : ObjNo) → is_by u actor ≡ false) → OwesNothing plain script supervisor S (decision_by script supervisor S plan).moves 4 → Turns script S (done_by script S plan).state actor (done_by script S plan).outcome.effects
+turns-light : (script : Script) (S : State) (actor : Actor) (plan : Plan) → AreRows script S
+    → ((u : ObjNo) → is_by u actor ≡ false)
+    → OwesNothing plain script supervisor S (decision_by script supervisor S plan).moves 4
+    → Turns script S (done_by script S plan).state actor (done_by script S plan).outcome.effects
 turns-light script S actor plan rows nobody light =
     let ms = (decision_by script supervisor S plan).moves in
     let does = doing-by script S plan rows (goes-light script S supervisor ms rows light) in
     let still = turning-none ms (light.calm.goes refl) in
     turns-quiet script S (perform supervisor ms S) actor (tell supervisor ms S) nobody (λ u o. seeks-doing script S supervisor ms does rows u o (λ _. still))
-    (λ o inside none. (plus-doing script S supervisor ms does o inside none (light.calm.finds o) (λ some. absurd (omega arith)), finds-tell supervisor ms S o ∙ light.calm.finds o))
+    (λ o inside none. (
+      plus-doing script S supervisor ms does o inside none (light.calm.finds o)
+          (λ some. absurd (omega arith)),
+      finds-tell supervisor ms S o ∙ light.calm.finds o,
+    ))
 
-turns-interrupt : (script : Script) (S : State) (k : ℕ) → IsShaped script → AreRows script S → Turns script S (interrupt script S k).state (Irq k) (interrupt script S k).outcome.effects
+turns-interrupt : (script : Script) (S : State) (k : ℕ) → IsShaped script → AreRows script S
+    → Turns script S (interrupt script S k).state (Irq k) (interrupt script S k).outcome.effects
 unfolding interrupt
 turns-interrupt script S k shaped rows = turns-light script S (Irq k) (Runs (Interrupt k)) rows (λ u. refl) (light-interrupt script S k shaped rows)
 
-turns-immediate : (script : Script) (S : State) → IsShaped script → AreRows script S → Turns script S (immediate script S).state Idfc (immediate script S).outcome.effects
+turns-immediate : (script : Script) (S : State) → IsShaped script → AreRows script S
+    → Turns script S (immediate script S).state Idfc (immediate script S).outcome.effects
 unfolding immediate
 turns-immediate script S shaped rows =
-    let found = next_immediate S.synchronization.deferred in turns-light script S Idfc (immediate_plan script S found) rows (λ u. refl) (light-immediate script S found shaped rows refl)
+    let found = next_immediate S.synchronization.deferred in
+    turns-light script S Idfc (immediate_plan script S found) rows (λ u. refl)
+    (light-immediate script S found shaped rows refl)
 
 -- the number of the acting thread
 by-same : (u t : ObjNo) → is_by u (Thread t) ≡ true → t ≡ u
 by-same u t by = same_object t u (eqb-true t.0 u.0 by)
 
-turns-act : (script : Script) (S : State) (t : ObjNo) → IsShaped script → AreRows script S → AtFinds script S → CanAct script S (Thread t) → Turns script S (act script S t).state (Thread t) (act script S t).outcome.effects
+turns-act : (script : Script) (S : State) (t : ObjNo) → IsShaped script → AreRows script S → AtFinds script S
+    → CanAct script S (Thread t) → Turns script S (act script S t).state (Thread t) (act script S t).outcome.effects
 unfolding act
 turns-act script S t shaped rows at able =
     let effects = tell t (decision_of script S t).moves S in
@@ -95,12 +114,17 @@ turns-act script S t shaped rows at able =
     record {
       others = λ u o other. others-out script S t shaped rows u o (λ e. let by : is_by u (Thread t) ≡ true = eq-eqb t.0 u.0 e in absurd (cc));
       own = λ u o by. subst (λ (x : ObjNo). seeks o (thread_of T x) ≡ finds effects o) (by-same u t by) (own-out script S t shaped rows at able o);
-      opens = λ u o by inside alive. subst (λ (x : ObjNo). 0 < seeks o (thread_of S x) → 0 < pluses_by effects (Temp x) o) (by-same u t by) (opens-act script S t shaped rows at able o inside alive);
-      misses = λ u o by dead. subst (λ (y : ObjNo). 0 < seeks o (thread_of S y) → (x : ObjNo) → pluses effects x ≡ 0) (by-same u t by) (misses-act script S t shaped rows at able o dead);
+      opens =
+          λ u o by inside alive. subst (λ (x : ObjNo). 0 < seeks o (thread_of S x) → 0 < pluses_by effects (Temp x) o)
+          (by-same u t by) (opens-act script S t shaped rows at able o inside alive);
+      misses =
+          λ u o by dead. subst (λ (y : ObjNo). 0 < seeks o (thread_of S y) → (x : ObjNo) → pluses effects x ≡ 0)
+          (by-same u t by) (misses-act script S t shaped rows at able o dead);
       dormant = λ o inside alive none away. dormant-act script S t shaped rows o inside alive none (away t (eq-eqb t.0 t.0 refl));
     }
 
-pub turns-next : (script : Script) (S : State) (actor : Actor) → IsShaped script → AreRows script S → AtFinds script S → CanAct script S actor → Turns script S (next script S actor) actor (transition script S actor).outcome.effects
+pub turns-next : (script : Script) (S : State) (actor : Actor) → IsShaped script → AreRows script S → AtFinds script S
+    → CanAct script S actor → Turns script S (next script S actor) actor (transition script S actor).outcome.effects
 turns-next script S (Thread t) shaped rows at able = turns-act script S t shaped rows at able
 turns-next script S (Irq k) shaped rows at able = turns-interrupt script S k shaped rows
 turns-next script S Idfc shaped rows at able = turns-immediate script S shaped rows
@@ -113,22 +137,38 @@ returns-later None e = absurd (cc)
 returns-later (Some p) e = refl
 
 -- whoever is out after an action, and didn't go on in it, was so before, at the same instruction
-midway-doing : (script : Script) (S : State) (t : ObjNo) (ms : List Move) → Doing script S t ms → (u : ObjNo) (row : ThreadRow) → (t.0 ≡ u.0 → total going_bit ms ≡ 0) → is_some row.part ≡ true → thread_of (perform t ms S) u ≡ Some row → WasMidway S.references.threads u.0 row
+midway-doing : (script : Script) (S : State) (t : ObjNo) (ms : List Move) → Doing script S t ms
+    → (u : ObjNo) (row : ThreadRow) → (t.0 ≡ u.0 → total going_bit ms ≡ 0) → is_some row.part ≡ true
+    → thread_of (perform t ms S) u ≡ Some row → WasMidway S.references.threads u.0 row
 midway-doing script S t ms does u row stays later is = elim does as (λ _. WasMidway S.references.threads u.0 row) [
   | inl goes ↦ (carries-each script S t ms goes.each u row stays later is).mid
   | inr other ↦ elim other as (λ _. WasMidway S.references.threads u.0 row) [
     | inl pays ↦ midway-pay S t pays.what u.0 row (sym (ap (λ (l : List Move). thread_of (perform t l S) u) pays.moves) ∙ is)
-    | inr none ↦ record { old = row; was = sym (ap (λ (l : List Move). thread_of (perform t l S) u) none) ∙ is; role = refl; place = refl; part = refl; found = refl; uses = refl; live = λ e. e }
+    | inr none ↦
+        record {
+          old = row;
+          was = sym (ap (λ (l : List Move). thread_of (perform t l S) u) none) ∙ is;
+          role = refl;
+          place = refl;
+          part = refl;
+          found = refl;
+          uses = refl;
+          live = λ e. e;
+        }
   ]
 ]
 
-at-doing : (script : Script) (S : State) (t : ObjNo) (ms : List Move) → Doing script S t ms → AtFinds script S → (u : ObjNo) (row : ThreadRow) → (t.0 ≡ u.0 → total going_bit ms ≡ 0) → is_returning row.part ≡ true → thread_of (perform t ms S) u ≡ Some row → finds_by_name (instruction script row) ≡ true
+at-doing : (script : Script) (S : State) (t : ObjNo) (ms : List Move) → Doing script S t ms → AtFinds script S
+    → (u : ObjNo) (row : ThreadRow) → (t.0 ≡ u.0 → total going_bit ms ≡ 0) → is_returning row.part ≡ true
+    → thread_of (perform t ms S) u ≡ Some row → finds_by_name (instruction script row) ≡ true
 at-doing script S t ms does at u row stays returns is =
     let mid = midway-doing script S t ms does u row stays (returns-later row.part returns) is in
     let same_instruction : instruction script row ≡ instruction script mid.old = same-instruction script mid.old row mid.role (sym mid.place) in
     ap finds_by_name same_instruction ∙ at u mid.old mid.was (ap is_returning mid.part ∙ returns)
 
-at-light : (script : Script) (S : State) (plan : Plan) → AreRows script S → AtFinds script S → OwesNothing plain script supervisor S (decision_by script supervisor S plan).moves 4 → AtFinds script (done_by script S plan).state
+at-light : (script : Script) (S : State) (plan : Plan) → AreRows script S → AtFinds script S
+    → OwesNothing plain script supervisor S (decision_by script supervisor S plan).moves 4
+    → AtFinds script (done_by script S plan).state
 at-light script S plan rows at light u row is returns =
     let ms = (decision_by script supervisor S plan).moves in
     at-doing script S supervisor ms (doing-by script S plan rows (goes-light script S supervisor ms rows light)) at u row (λ _. light.calm.goes refl) returns is
@@ -140,10 +180,14 @@ at-interrupt script S k shaped rows at = at-light script S (Runs (Interrupt k)) 
 at-immediate : (script : Script) (S : State) → IsShaped script → AreRows script S → AtFinds script S → AtFinds script (immediate script S).state
 unfolding immediate
 at-immediate script S shaped rows at =
-    let found = next_immediate S.synchronization.deferred in at-light script S (immediate_plan script S found) rows at (light-immediate script S found shaped rows refl)
+    let found = next_immediate S.synchronization.deferred in
+    at-light script S (immediate_plan script S found) rows at (light-immediate script S found shaped rows refl)
 
 -- who acts and is out then has just found an object, by its instruction
-at-own : (script : Script) (S : State) (t : ObjNo) → IsShaped script → AreRows script S → AtFinds script S → CanAct script S (Thread t) → (row : ThreadRow) → thread_of (perform t (decision_of script S t).moves S) t ≡ Some row → is_returning row.part ≡ true → finds_by_name (instruction script row) ≡ true
+at-own : (script : Script) (S : State) (t : ObjNo) → IsShaped script → AreRows script S → AtFinds script S
+    → CanAct script S (Thread t) → (row : ThreadRow)
+    → thread_of (perform t (decision_of script S t).moves S) t ≡ Some row → is_returning row.part ≡ true
+    → finds_by_name (instruction script row) ≡ true
 at-own script S t shaped rows at able row is returns =
     let o = found_object row in
     let ms = (decision_of script S t).moves in
@@ -153,11 +197,13 @@ at-own script S t shaped rows at able row is returns =
     let bits = finds-tell t ms S o in
     let f = finding script S t shaped rows o (omega arith) in
     let there : thread_of (perform t ms S) t ≡ Some (with_found o f.row) =
-    ap (λ (l : List Move). thread_of (perform t l S) t) f.moves ∙ (row-here S.references.threads t (with_found o) t.0 refl ∙ ap (option_map (with_found o)) f.is) in
+    ap (λ (l : List Move). thread_of (perform t l S) t) f.moves
+    ∙ (row-here S.references.threads t (with_found o) t.0 refl ∙ ap (option_map (with_found o)) f.is) in
     let same_row : with_found o f.row ≡ row = cc in
     ap (λ (r : ThreadRow). finds_by_name (instruction script r)) (sym same_row) ∙ f.at
 
-at-act : (script : Script) (S : State) (t : ObjNo) → IsShaped script → AreRows script S → AtFinds script S → CanAct script S (Thread t) → AtFinds script (act script S t).state
+at-act : (script : Script) (S : State) (t : ObjNo) → IsShaped script → AreRows script S → AtFinds script S
+    → CanAct script S (Thread t) → AtFinds script (act script S t).state
 unfolding act
 at-act script S t shaped rows at able u row is returns =
     let ms = (decision_of script S t).moves in
@@ -166,7 +212,8 @@ at-act script S t shaped rows at able u row is returns =
       | inr apart ↦ at-doing script S t ms (doing script S t shaped rows) at u row (λ own. absurd (apart own)) returns is
     ]
 
-pub at-next : (script : Script) (S : State) (actor : Actor) → IsShaped script → AreRows script S → AtFinds script S → CanAct script S actor → AtFinds script (next script S actor)
+pub at-next : (script : Script) (S : State) (actor : Actor) → IsShaped script → AreRows script S → AtFinds script S
+    → CanAct script S actor → AtFinds script (next script S actor)
 at-next script S (Thread t) shaped rows at able = at-act script S t shaped rows at able
 at-next script S (Irq k) shaped rows at able = at-interrupt script S k shaped rows at
 at-next script S Idfc shaped rows at able = at-immediate script S shaped rows at
@@ -174,7 +221,8 @@ at-next script S Tick shaped rows at able = at
 at-next script S Idle shaped rows at able = at
 
 -- at boot nobody is out
-born-back : (shared : Bool) (script : Script) (u : ObjNo) (row : ThreadRow) → IsShaped script → thread_of (boot_in shared script) u ≡ Some row → is_returning row.part ≡ false
+born-back : (shared : Bool) (script : Script) (u : ObjNo) (row : ThreadRow) → IsShaped script
+    → thread_of (boot_in shared script) u ≡ Some row → is_returning row.part ≡ false
 unfolding boot_of
 born-back shared script u row shaped is = ap is_returning (born_row script _ (born script) u.0 row (each_born script shaped) is).part
 

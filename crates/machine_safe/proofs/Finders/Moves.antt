@@ -32,41 +32,52 @@ turning-none [] none = refl
 turning-none (m ∷ ms) none = let few = turning-le m in let rest = turning-none ms (omega arith) in omega arith
 
 -- the row of a thread that is changed
-changed : (threads : List (Option ThreadRow)) (v : ObjNo) (f : ThreadRow → ThreadRow) (t : ObjNo) (row : ThreadRow) → v ≡ t → get_or threads v.0 None ≡ Some row → get_or (with_row threads v f) t.0 None ≡ Some (f row)
+changed : (threads : List (Option ThreadRow)) (v : ObjNo) (f : ThreadRow → ThreadRow) (t : ObjNo) (row : ThreadRow)
+    → v ≡ t → get_or threads v.0 None ≡ Some row → get_or (with_row threads v f) t.0 None ≡ Some (f row)
 changed threads v f t row own is = row-here threads v f t.0 (ap (λ (x : ObjNo). x.0) own) ∙ ap (option_map f) is
 
 -- who finds an object is out on it then
-pub seeks-found : (script : Script) (S : State) (t v x : ObjNo) → FitsMove script t (Find v x) S → AreRows script S → (o : ObjNo) → seeks o (thread_of (moved t (Find v x) S) t) ≡ same x o
+pub seeks-found : (script : Script) (S : State) (t v x : ObjNo) → FitsMove script t (Find v x) S → AreRows script S
+    → (o : ObjNo) → seeks o (thread_of (moved t (Find v x) S) t) ≡ same x o
 seeks-found script S t v x fits rows o =
     let may = fits.0 in
     let inside = may.object in
     let few = rows.references.sized.objects_few in
-    ap (seeks o) (changed S.references.threads v (with_found x) t may.row fits.1 may.is) ∙ ap (λ (y : ObjNo). same y o) (same_object (found_object (with_found x may.row)) x (omega arith))
+    ap (seeks o) (changed S.references.threads v (with_found x) t may.row fits.1 may.is)
+    ∙ ap (λ (y : ObjNo). same y o) (same_object (found_object (with_found x may.row)) x (omega arith))
 
 -- the acting thread comes to be out by a find alone
-pub seeks-le : (script : Script) (S : State) (t : ObjNo) (m : Move) → FitsMove script t m S → AreRows script S → (o : ObjNo) → seeks o (thread_of (moved t m S) t) ≤ seeks o (thread_of S t) + find_bit o m
+pub seeks-le : (script : Script) (S : State) (t : ObjNo) (m : Move) → FitsMove script t m S → AreRows script S
+    → (o : ObjNo) → seeks o (thread_of (moved t m S) t) ≤ seeks o (thread_of S t) + find_bit o m
 seeks-le script S t (Find v x) fits rows o = let found = seeks-found script S t v x fits rows o in omega arith
 seeks-le script S t (Open v x part) fits rows o =
     let back = fits.0.back in
-    let gone = ap (seeks o) (changed S.references.threads v (with_opened x part) t back.row fits.1 back.is) ∙ if_not (is_returning (Some part)) _ (later_other (Some part) fits.0.later) in omega arith
+    let gone = ap (seeks o) (changed S.references.threads v (with_opened x part) t back.row fits.1 back.is)
+    ∙ if_not (is_returning (Some part)) _ (later_other (Some part) fits.0.later) in
+    omega arith
 seeks-le script S t (Miss v x) fits rows o =
     let back = fits.0.0 in
     let gone = ap (seeks o) (changed S.references.threads v with_missed t back.row fits.1 back.is) in omega arith
 seeks-le script S t m fits rows o = let stays = seeks-same script S t m fits t o (λ _. refl) in omega arith
 
 -- an action leaves it of other threads, and of its own, where it doesn't find or come back
-seeks-each : (script : Script) (S : State) (t : ObjNo) (ms : List Move) → EachFits script t ms S → (u o : ObjNo) → (t.0 ≡ u.0 → total turning_bit ms ≡ 0) → seeks o (thread_of (perform t ms S) u) ≡ seeks o (thread_of S u)
+seeks-each : (script : Script) (S : State) (t : ObjNo) (ms : List Move) → EachFits script t ms S → (u o : ObjNo)
+    → (t.0 ≡ u.0 → total turning_bit ms ≡ 0) → seeks o (thread_of (perform t ms S) u) ≡ seeks o (thread_of S u)
 seeks-each script S t [] fits u o stays = refl
 seeks-each script S t (m ∷ ms) fits u o stays =
-    seeks-each script (moved t m S) t ms fits.1 u o (λ at. let none = stays at in omega arith) ∙ seeks-same script S t m fits.0 u o (λ at. let none = stays at in omega arith)
+    seeks-each script (moved t m S) t ms fits.1 u o (λ at. let none = stays at in omega arith)
+    ∙ seeks-same script S t m fits.0 u o (λ at. let none = stays at in omega arith)
 
-seeks-going : (script : Script) (S : State) (t : ObjNo) (ms : List Move) → IsGoing script S t ms → (o : ObjNo) → seeks o (thread_of (perform t ms S) t) ≤ seeks o (thread_of S t) + total (find_bit o) ms
+seeks-going : (script : Script) (S : State) (t : ObjNo) (ms : List Move) → IsGoing script S t ms → (o : ObjNo)
+    → seeks o (thread_of (perform t ms S) t) ≤ seeks o (thread_of S t) + total (find_bit o) ms
 seeks-going script S t [] h o = omega arith
 seeks-going script S t (m ∷ ms) h o =
     let first = seeks-le script S t m h.each.0 h.sane.rows o in
     let rest = seeks-going script (moved t m S) t ms (going-then script S t m ms h) o in omega arith
 
-pub seeks-doing : (script : Script) (S : State) (t : ObjNo) (ms : List Move) → Doing script S t ms → AreRows script S → (u o : ObjNo) → (t.0 ≡ u.0 → total turning_bit ms ≡ 0) → seeks o (thread_of (perform t ms S) u) ≡ seeks o (thread_of S u)
+pub seeks-doing : (script : Script) (S : State) (t : ObjNo) (ms : List Move) → Doing script S t ms → AreRows script S
+    → (u o : ObjNo) → (t.0 ≡ u.0 → total turning_bit ms ≡ 0)
+    → seeks o (thread_of (perform t ms S) u) ≡ seeks o (thread_of S u)
 seeks-doing script S t ms does rows u o stays = elim does as (λ _. seeks o (thread_of (perform t ms S) u) ≡ seeks o (thread_of S u)) [
   | inl goes ↦ seeks-each script S t ms goes.each u o stays
   | inr other ↦ elim other as (λ _. seeks o (thread_of (perform t ms S) u) ≡ seeks o (thread_of S u)) [
@@ -75,11 +86,15 @@ seeks-doing script S t ms does rows u o stays = elim does as (λ _. seeks o (thr
   ]
 ]
 
-pub seeks-most : (script : Script) (S : State) (t : ObjNo) (ms : List Move) → Doing script S t ms → AreRows script S → (o : ObjNo) → seeks o (thread_of (perform t ms S) t) ≤ seeks o (thread_of S t) + total (find_bit o) ms
+pub seeks-most : (script : Script) (S : State) (t : ObjNo) (ms : List Move) → Doing script S t ms → AreRows script S
+    → (o : ObjNo) → seeks o (thread_of (perform t ms S) t) ≤ seeks o (thread_of S t) + total (find_bit o) ms
 seeks-most script S t ms does rows o = elim does as (λ _. seeks o (thread_of (perform t ms S) t) ≤ seeks o (thread_of S t) + total (find_bit o) ms) [
   | inl goes ↦ seeks-going script S t ms goes o
   | inr other ↦ elim other as (λ _. seeks o (thread_of (perform t ms S) t) ≤ seeks o (thread_of S t) + total (find_bit o) ms) [
-    | inl pays ↦ let same_now = ap (λ (l : List Move). seeks o (thread_of (perform t l S) t)) pays.moves ∙ seeks-pay script S t pays.what pays.rest pays.owes rows t o in omega arith
+    | inl pays ↦
+        let same_now = ap (λ (l : List Move). seeks o (thread_of (perform t l S) t)) pays.moves
+        ∙ seeks-pay script S t pays.what pays.rest pays.owes rows t o in
+        omega arith
     | inr none ↦ let same_now = ap (λ (l : List Move). seeks o (thread_of (perform t l S) t)) none in omega arith
   ]
 ]

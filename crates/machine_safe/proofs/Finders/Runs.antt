@@ -43,12 +43,14 @@ pub record HasFound (es : List Entry) (w o : ObjNo) : Type 0 where
 
 module _ (script : Script) (shaped : IsShaped script) where
   -- what the first of them does to who is out
-  turns-by : (S : State) (place : ℕ) (e : Entry) → AreRows script S → AtFinds script S → IsNext script S place e → Turns script S (next_by script S e) e.actor e.effects
+  turns-by : (S : State) (place : ℕ) (e : Entry) → AreRows script S → AtFinds script S → IsNext script S place e
+      → Turns script S (next_by script S e) e.actor e.effects
   turns-by S place e rows at next =
       let done = done-next script S place e next in
       let h = turns-next script (choosing e S) e.actor shaped (rows-choosing script S e rows) at done.able in
       let told : e.effects ≡ (transition script (choosing e S) e.actor).outcome.effects = ap (λ (x : Entry). x.effects) done.told in
-      subst (Turns script S (next_by script S e) e.actor) (sym told) (record { others = h.others; own = h.own; opens = h.opens; misses = h.misses; dormant = h.dormant })
+      subst (Turns script S (next_by script S e) e.actor) (sym told)
+      (record { others = h.others; own = h.own; opens = h.opens; misses = h.misses; dormant = h.dormant })
 
   pub turns : (S : State) (place : ℕ) (e : Entry) (es : List Entry) → Stands script S place (e ∷ es) → Turns script S (next_by script S e) e.actor e.effects
   turns S place e es h = turns-by S place e h.rows h.at h.legal.0
@@ -57,7 +59,11 @@ module _ (script : Script) (shaped : IsShaped script) where
   pub stands-next : (S : State) (place : ℕ) (e : Entry) (es : List Entry) → Stands script S place (e ∷ es) → Stands script (next_by script S e) (place + 1) es
   stands-next S place e es h =
       let done = done-next script S place e h.legal.0 in
-      record { rows = rows-by script S e shaped h.rows; at = at-next script (choosing e S) e.actor shaped (rows-choosing script S e h.rows) h.at done.able; legal = h.legal.1 }
+      record {
+        rows = rows-by script S e shaped h.rows;
+        at = at-next script (choosing e S) e.actor shaped (rows-choosing script S e h.rows) h.at done.able;
+        legal = h.legal.1;
+      }
 
   pub stands-rest : (S : State) (place : ℕ) (xs ys : List Entry) → Stands script S place (xs ++ ys) → (n : ℕ) × Stands script (after_from script S xs) n ys
   stands-rest S place [] ys h = (place, h)
@@ -68,7 +74,8 @@ module _ (script : Script) (shaped : IsShaped script) where
   first-none true e x none = absurd (cc)
   first-none false e x none = (refl, none)
 
-  pub out-still : (S : State) (place : ℕ) (xs ys : List Entry) → Stands script S place (xs ++ ys) → (w o : ObjNo) → first_by w xs ≡ None → seeks o (thread_of (after_from script S xs) w) ≡ seeks o (thread_of S w)
+  pub out-still : (S : State) (place : ℕ) (xs ys : List Entry) → Stands script S place (xs ++ ys) → (w o : ObjNo)
+      → first_by w xs ≡ None → seeks o (thread_of (after_from script S xs) w) ≡ seeks o (thread_of S w)
   out-still S place [] ys h w o none = refl
   out-still S place (x ∷ xs) ys h w o none =
       let parts = first-none (is_by w x.actor) x (first_by w xs) none in
@@ -78,7 +85,9 @@ module _ (script : Script) (shaped : IsShaped script) where
   abbrev IsTold : State → List Entry → ObjNo → ObjNo → Type 0
   IsTold S es w o = ((0 < seeks o (thread_of S w)) × (first_by w es ≡ None)) ⊎ HasFound es w o
 
-  out-step : (S : State) (place : ℕ) (x : Entry) (xs ys : List Entry) → Stands script S place (x ∷ xs ++ ys) → (w o : ObjNo) → 0 < seeks o (thread_of (next_by script S x) w) → first_by w xs ≡ None → (b : Bool) → is_by w x.actor ≡ b → IsTold S (x ∷ xs) w o
+  out-step : (S : State) (place : ℕ) (x : Entry) (xs ys : List Entry) → Stands script S place (x ∷ xs ++ ys)
+      → (w o : ObjNo) → 0 < seeks o (thread_of (next_by script S x) w) → first_by w xs ≡ None → (b : Bool)
+      → is_by w x.actor ≡ b → IsTold S (x ∷ xs) w o
   out-step S place x xs ys h w o out none true by =
       let own = (turns S place x (xs ++ ys) h).own w o by in
       inr (record { before = []; find = x; between = xs; stands = refl; actor = actor-is w x.actor by; found = (omega arith); gone = none })
@@ -86,19 +95,33 @@ module _ (script : Script) (shaped : IsShaped script) where
       let other = (turns S place x (xs ++ ys) h).others w o by in
       inl ((omega arith), ap (λ (b : Bool). if b then Some x else first_by w xs) by ∙ none)
 
-  pub out-told : (S : State) (place : ℕ) (xs ys : List Entry) → Stands script S place (xs ++ ys) → (w o : ObjNo) → 0 < seeks o (thread_of (after_from script S xs) w) → IsTold S xs w o
+  pub out-told : (S : State) (place : ℕ) (xs ys : List Entry) → Stands script S place (xs ++ ys) → (w o : ObjNo)
+      → 0 < seeks o (thread_of (after_from script S xs) w) → IsTold S xs w o
   out-told S place [] ys h w o out = inl (out, refl)
-  out-told S place (x ∷ xs) ys h w o out = elim (out-told (next_by script S x) (place + 1) xs ys (stands-next S place x (xs ++ ys) h) w o out) as (λ _. IsTold S (x ∷ xs) w o) [
-    | inl still ↦ out-step S place x xs ys h w o still.0 still.1 (is_by w x.actor) refl
-    | inr f ↦ inr (record { before = x ∷ f.before; find = f.find; between = f.between; stands = ap (λ (l : List Entry). x ∷ l) f.stands; actor = f.actor; found = f.found; gone = f.gone })
-  ]
+  out-told S place (x ∷ xs) ys h w o out =
+      elim (out-told (next_by script S x) (place + 1) xs ys (stands-next S place x (xs ++ ys) h) w o out) as
+      (λ _. IsTold S (x ∷ xs) w o) [
+        | inl still ↦ out-step S place x xs ys h w o still.0 still.1 (is_by w x.actor) refl
+        | inr f ↦
+            inr (record {
+              before = x ∷ f.before;
+              find = f.find;
+              between = f.between;
+              stands = ap (λ (l : List Entry). x ∷ l) f.stands;
+              actor = f.actor;
+              found = f.found;
+              gone = f.gone;
+            })
+      ]
 
   -- Where an object is alive without a reference, and none of those who are out on it opens it as its next entry, none of them has one.
-  pub out-idle : (S : State) (place : ℕ) (es : List Entry) → Stands script S place es → (o : ObjNo) → o.0 < length S.references.objects → gone S.references.objects o ≡ 0 → count_of S o ≡ 0
+  pub out-idle : (S : State) (place : ℕ) (es : List Entry) → Stands script S place es → (o : ObjNo)
+      → o.0 < length S.references.objects → gone S.references.objects o ≡ 0 → count_of S o ≡ 0
       → ((w : ObjNo) → 0 < seeks o (thread_of S w) → opens w o (first_by w es) ≡ false) → (w : ObjNo) → 0 < seeks o (thread_of S w) → first_by w es ≡ None
   out-idle S place [] h o inside alive none shut w out = refl
   out-idle S place (e ∷ es) h o inside alive none shut w out =
-      by (λ later_inside later_alive later_none later_shut later_out. out-idle (next_by script S e) (place + 1) es (stands-next S place e es h) o later_inside later_alive later_none later_shut w later_out) (is_by w e.actor) refl
+      by (λ later_inside later_alive later_none later_shut later_out. out-idle (next_by script S e) (place + 1) es
+      (stands-next S place e es h) o later_inside later_alive later_none later_shut w later_out) (is_by w e.actor) refl
     where
       T : State
       T = next_by script S e
@@ -125,7 +148,9 @@ module _ (script : Script) (shaped : IsShaped script) where
           let same_out = turn.others u o other in
           sym (ap (λ (b : Bool). opens u o (if b then Some e else first_by u es)) other) ∙ shut u (omega arith)
 
-      by : (o.0 < length T.references.objects → gone T.references.objects o ≡ 0 → count_of T o ≡ 0 → ((u : ObjNo) → 0 < seeks o (thread_of T u) → opens u o (first_by u es) ≡ false) → 0 < seeks o (thread_of T w) → first_by w es ≡ None)
+      by : (o.0 < length T.references.objects → gone T.references.objects o ≡ 0 → count_of T o ≡ 0
+          → ((u : ObjNo) → 0 < seeks o (thread_of T u) → opens u o (first_by u es) ≡ false) → 0 < seeks o (thread_of T w)
+          → first_by w es ≡ None)
           → (b : Bool) → is_by w e.actor ≡ b → (if b then Some e else first_by w es) ≡ None
       by rest true acts = let gone_now = away w acts in absurd (omega arith)
       by rest false acts =

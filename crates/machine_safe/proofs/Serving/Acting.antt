@@ -53,7 +53,9 @@ use Rattle.machine_safe.proofs.Serving.Connecting.{keeps_handle, KeepsHandle, se
 use Rattle.machine.specs.Out.{is_returning}
 
 -- a server is made
-deed-made_server : (S : State) (t : ObjNo) (at : Option Instr) (P : Decision → Type 0) (name : List ℕ) (x : ℕ) (handle : Option NewHandle) → OfEach S t at P → P (make_server t (next_object S) name x handle)
+deed-made_server : (S : State) (t : ObjNo) (at : Option Instr) (P : Decision → Type 0) (name : List ℕ) (x : ℕ)
+    (handle : Option NewHandle)
+    → OfEach S t at P → P (make_server t (next_object S) name x handle)
 deed-made_server S t at P name x None each = calm each _ refl refl
 deed-made_server S t at P name x (Some handle) each = each.makes _ (record {
   name = name;
@@ -77,18 +79,24 @@ owner-is : (t : ObjNo) (owner : Option ObjNo) → is_owner t owner ≡ true → 
 owner-is t None e = absurd (cc)
 owner-is t (Some u) e = ap Some (same_object u t (eqb-true u.0 t.0 e))
 
-taken-is : (S : State) (t : ObjNo) (found : Option Message) (message : Message) → taken_by S t found ≡ Some message → (found ≡ Some message) × (owner_of S.serving.servers message.row.server ≡ Some t)
+taken-is : (S : State) (t : ObjNo) (found : Option Message) (message : Message) → taken_by S t found ≡ Some message
+    → (found ≡ Some message) × (owner_of S.serving.servers message.row.server ≡ Some t)
 taken-is S t None message e = absurd (cc)
 taken-is S t (Some first) message e = by (first.row.taken && is_owner t (owner_of S.serving.servers first.row.server)) refl e
   where
-    by : (b : Bool) → (first.row.taken && is_owner t (owner_of S.serving.servers first.row.server)) ≡ b → (if b then Some first else None) ≡ Some message → (Some first ≡ Some message) × (owner_of S.serving.servers message.row.server ≡ Some t)
+    by : (b : Bool) → (first.row.taken && is_owner t (owner_of S.serving.servers first.row.server)) ≡ b
+        → (if b then Some first else None) ≡ Some message → (Some first ≡ Some message)
+        × (owner_of S.serving.servers message.row.server ≡ Some t)
     by false is e = absurd (cc)
     by true is e =
         let own : first ≡ message = cc in
         let parts = and_parts first.row.taken (is_owner t (owner_of S.serving.servers first.row.server)) is in
         (e, subst (λ (x : Message). owner_of S.serving.servers x.row.server ≡ Some t) own (owner-is t (owner_of S.serving.servers first.row.server) parts.1))
 
-deed-complete : (S : State) (t : ObjNo) (at : Option Instr) (P : Decision → Type 0) (y : ℕ) (code : ℤ) (m : MsgNo) (message : Option Message) → at ≡ Some (instr.Complete y code) → taken_by S t (message_of S.serving.messages m) ≡ message → OfEach S t at P → P (complete_message S t code message)
+deed-complete : (S : State) (t : ObjNo) (at : Option Instr) (P : Decision → Type 0) (y : ℕ) (code : ℤ) (m : MsgNo)
+    (message : Option Message)
+    → at ≡ Some (instr.Complete y code) → taken_by S t (message_of S.serving.messages m) ≡ message → OfEach S t at P
+    → P (complete_message S t code message)
 deed-complete S t at P y code m None here e each = calm each _ refl refl
 deed-complete S t at P y code m (Some message) here e each =
     let is = taken-is S t (message_of S.serving.messages m) message e in
@@ -136,9 +144,12 @@ connected-is S s o e = by (was_opened (session_at S.serving.servers s)) e
     by true e = e
     by false e = absurd (cc)
 
-module _ (S : State) (t : ObjNo) (at : Option Instr) (P : Decision → Type 0) (h : Holder) (o : ObjNo) (answers : Bool) (d : Decision) (handle : is_handle h ≡ true) (makes : makes_server d.step ≡ false) (unsent : is_send d.step ≡ false) (told : status_by d.step at ≡ None) (named : accepts_by d.step None ≡ true) (each : OfEach S t at P) where
+module _ (S : State) (t : ObjNo) (at : Option Instr) (P : Decision → Type 0) (h : Holder) (o : ObjNo) (answers : Bool)
+    (d : Decision) (handle : is_handle h ≡ true) (makes : makes_server d.step ≡ false) (unsent : is_send d.step ≡ false)
+    (told : status_by d.step at ≡ None) (named : accepts_by d.step None ≡ true) (each : OfEach S t at P) where
   -- the handle of what is no server
-  others : (ms : List Move) → d.moves ≡ ms ++ Lose h o ∷ behind answers t → ((v : ObjNo) → total (lost_bit v) ms ≡ 0) → server_at S.serving.servers o ≡ None → ClosesOthers S d
+  others : (ms : List Move) → d.moves ≡ ms ++ Lose h o ∷ behind answers t → ((v : ObjNo) → total (lost_bit v) ms ≡ 0)
+      → server_at S.serving.servers o ≡ None → ClosesOthers S d
   others ms moves silent none v some =
       let all = ap (total (lost_bit v)) moves in
       let parts = total-append (lost_bit v) ms (Lose h o ∷ behind answers t) in
@@ -154,25 +165,47 @@ module _ (S : State) (t : ObjNo) (at : Option Instr) (P : Decision → Type 0) (
       each.keeps d (record {
         changing = let a = ap (total changing_bit) moves in let b = still.0 in let c = changing-handle h o handle in omega arith;
         still = let a = ap (total message_bit) moves in let b = still.1 in omega arith;
-        detaches = λ v some. let a = ap (total (detach_bit v)) moves in let b = undetached-behind answers t v in let c = undetached h o v handle in absurd (omega arith);
+        detaches =
+            λ v some. let a = ap (total (detach_bit v)) moves in let b = undetached-behind answers t v in
+            let c = undetached h o v handle in absurd (omega arith);
         send = λ sends. absurd (cc);
         closed = others [] moves (λ v. refl) none;
       })
 
-  sends : (v : ObjNo) → d.moves ≡ Servers (SetOpen o false) ∷ post S t o v disconnects no_args Disconnect ++ Lose h o ∷ behind answers t → open_server S o ≡ Some v → server_at S.serving.servers o ≡ None → P d
+  sends : (v : ObjNo)
+      → d.moves ≡ Servers (SetOpen o false) ∷ post S t o v disconnects no_args Disconnect ++ Lose h o ∷ behind answers t
+      → open_server S o ≡ Some v → server_at S.serving.servers o ≡ None → P d
   sends v moves opens none =
       let still = behind-still answers t in
       each.sends d (sending d (Servers (SetOpen o false) ∷ []) (Lose h o ∷ behind answers t) o v disconnects no_args Disconnect moves refl refl
       (let a = still.0 in let b = changing-handle h o handle in omega arith) (let a = still.1 in omega arith) opens told (λ e. absurd (cc)) named
-      (others (Servers (SetOpen o false) ∷ post S t o v disconnects no_args Disconnect) moves (λ x. let wakes = lost-none x (wake_receiver S v (owner_of S.serving.servers v)) ((tame-wake {k = plain} S v (owner_of S.serving.servers v)).calm refl) in omega arith) none) (λ x. let b = undetached-behind answers t x in let c = undetached h o x handle in omega arith) unsent (λ sends. absurd (cc)))
+      (others (Servers (SetOpen o false) ∷ post S t o v disconnects no_args Disconnect) moves
+      (λ x. let wakes = lost-none x (wake_receiver S v (owner_of S.serving.servers v))
+      ((tame-wake {k = plain} S v (owner_of S.serving.servers v)).calm refl) in omega arith) none)
+      (λ x. let b = undetached-behind answers t x in let c = undetached h o x handle in omega arith) unsent
+      (λ sends. absurd (cc)))
 
-  unconnected : (server : Option ObjNo) → d.moves ≡ disconnect S t o server ++ Lose h o ∷ behind answers t → connected_to S o ≡ server → server_at S.serving.servers o ≡ None → P d
+  unconnected : (server : Option ObjNo) → d.moves ≡ disconnect S t o server ++ Lose h o ∷ behind answers t
+      → connected_to S o ≡ server → server_at S.serving.servers o ≡ None → P d
   unconnected None moves e none = loses moves none
   unconnected (Some v) moves e none = sends v moves (connected-is S o v e) none
 
-  closing : (server : Option ServerRow) → d.moves ≡ close_or o server (disconnect S t o (connected_to S o)) ++ Lose h o ∷ behind answers t → server_at S.serving.servers o ≡ server → P d
+  closing : (server : Option ServerRow)
+      → d.moves ≡ close_or o server (disconnect S t o (connected_to S o)) ++ Lose h o ∷ behind answers t
+      → server_at S.serving.servers o ≡ server → P d
   closing None moves e = unconnected (connected_to S o) moves refl e
-  closing (Some row) moves e = each.closes d (record { server = o; row = row; is = e; holder = h; handle = handle; answers = answers; moves = moves; makes = makes; unsent = unsent })
+  closing (Some row) moves e =
+      each.closes d (record {
+        server = o;
+        row = row;
+        is = e;
+        holder = h;
+        handle = handle;
+        answers = answers;
+        moves = moves;
+        makes = makes;
+        unsent = unsent;
+      })
 
   pub deed-handle : d.moves ≡ close_moves S t h o ++ behind answers t → P d
   deed-handle moves = closing (server_at S.serving.servers o) (moves ∙ append_assoc (before_close S t o) (Lose h o ∷ []) (behind answers t)) refl
@@ -180,16 +213,28 @@ module _ (S : State) (t : ObjNo) (at : Option Instr) (P : Decision → Type 0) (
 holder-handle : (t : ObjNo) (row : ThreadRow) (handle : ℕ) → is_handle (holder_of t row handle) ≡ true
 holder-handle t row handle = if_cases (λ (h : Holder). is_handle h ≡ true) (is_local handle) _ _ (λ _. refl) (λ _. refl)
 
-deed-close : (S : State) (t : ObjNo) (at : Option Instr) (P : Decision → Type 0) (row : ThreadRow) (handle : ℕ) (found : Option ObjNo) → OfEach S t at P → P (close_handle S t row handle found)
+deed-close : (S : State) (t : ObjNo) (at : Option Instr) (P : Decision → Type 0) (row : ThreadRow) (handle : ℕ)
+    (found : Option ObjNo)
+    → OfEach S t at P → P (close_handle S t row handle found)
 deed-close S t at P row handle None each = calm each _ refl refl
-deed-close S t at P row handle (Some o) each = deed-handle S t at P (holder_of t row handle) o true (close_handle S t row handle (Some o)) (holder-handle t row handle) refl refl refl refl each refl
+deed-close S t at P row handle (Some o) each =
+    deed-handle S t at P (holder_of t row handle) o true (close_handle S t row handle (Some o))
+    (holder-handle t row handle) refl refl refl refl each refl
 
 -- each step of an instruction
-pub deed-step : (script : Script) (S : State) (t : ObjNo) (at : Option Instr) (P : Decision → Type 0) (row : ThreadRow) (i : Instr) (p : Option Part) → IsRegular (kind_of i p) script S t (step_of script S t row i p) → thread_of S t ≡ Some row → row.stage ≡ Live → is_returning p ≡ false → (keeps_handle (Some i) p ≡ true → KeepsHandle S t row) → at ≡ Some i → OfEach S t at P → P (step_of script S t row i p)
+pub deed-step : (script : Script) (S : State) (t : ObjNo) (at : Option Instr) (P : Decision → Type 0) (row : ThreadRow)
+    (i : Instr) (p : Option Part)
+    → IsRegular (kind_of i p) script S t (step_of script S t row i p) → thread_of S t ≡ Some row → row.stage ≡ Live
+    → is_returning p ≡ false → (keeps_handle (Some i) p ≡ true → KeepsHandle S t row) → at ≡ Some i → OfEach S t at P
+    → P (step_of script S t row i p)
 deed-step script S t at P row (instr.Close x) p regular is live going kept here each = deed-close S t at P row _ _ each
 deed-step script S t at P row (instr.Server name x) p regular is live going kept here each = deed-server S t at P name x each
-deed-step script S t at P row (instr.Connect name slots x) (Some p) regular is live going kept here each = deed-connect S t at (record { row = row; is = is; live = live }) P row name slots x p going (λ keeps s made. session-other S t row s (kept keeps) made) here each
-deed-step script S t at P row (instr.Send x function y args) (Some p) regular is live going kept here each = deed-send S t at (record { row = row; is = is; live = live }) P row x function y args p is here each
-deed-step script S t at P row (instr.Call x function args) (Some p) regular is live going kept here each = deed-call S t at (record { row = row; is = is; live = live }) P row x function args p here each
+deed-step script S t at P row (instr.Connect name slots x) (Some p) regular is live going kept here each =
+    deed-connect S t at (record { row = row; is = is; live = live }) P row name slots x p going
+    (λ keeps s made. session-other S t row s (kept keeps) made) here each
+deed-step script S t at P row (instr.Send x function y args) (Some p) regular is live going kept here each =
+    deed-send S t at (record { row = row; is = is; live = live }) P row x function y args p is here each
+deed-step script S t at P row (instr.Call x function args) (Some p) regular is live going kept here each =
+    deed-call S t at (record { row = row; is = is; live = live }) P row x function args p here each
 deed-step script S t at P row (instr.Complete y code) p regular is live going kept here each = deed-complete S t at P y code _ _ here refl each
 deed-step script S t at P row i p regular is live going kept here each = calm each _ (regular.calm refl) (regular.sends refl)

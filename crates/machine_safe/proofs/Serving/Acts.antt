@@ -140,8 +140,15 @@ module _ (script : Script) (S : State) (shaped : IsShaped script) (rows : AreRow
     onward-acts : is_returning (part_of (thread_of S t)) ≡ false → acts (decision_of script S t).step ≡ true
     onward-acts here = each-action script S t (λ (d : Decision). acts d.step ≡ true) (record {
       plainly = λ d why fits. plain-acts here d why;
-      steps = λ old i is live going at fits. course-acts script S t old i (step_of script S t old i old.part) (whole.steps t old i is live at (awake script S t old is may going)) (straight-of script S whole.straight t old i is live at) (course script S t old is rows i old.part live at refl fits going);
-      returns = λ old i is back at fits. let other : is_returning old.part ≡ false = ap (λ (r : Option ThreadRow). is_returning (part_of r)) (sym is) ∙ here in absurd (cc);
+      steps =
+          λ old i is live going at fits. course-acts script S t old i (step_of script S t old i old.part)
+          (whole.steps t old i is live at (awake script S t old is may going))
+          (straight-of script S whole.straight t old i is live at)
+          (course script S t old is rows i old.part live at refl fits going);
+      returns =
+          λ old i is back at fits. let other : is_returning old.part
+          ≡ false = ap (λ (r : Option ThreadRow). is_returning (part_of r)) (sym is)
+          ∙ here in absurd (cc);
       gives = λ row what given fits. gives-acts row what given;
       pays = λ what rest owes. pays-act what;
     }) shaped rows

@@ -166,7 +166,10 @@ module _ (script : Script) (S : State) (t : ObjNo) (old : ThreadRow) (rows : Are
         unset = λ s is. absurd (cc);
         wanted = λ is. absurd (cc);
         used = λ k u is used. absurd (cc);
-        found = λ k is. let same : kind.Server ≡ k = cc in subst (λ (z : Kind). OfKind z (found_object (with_found o old))) same (subst (OfKind kind.Server) (sym own) is_server);
+        found =
+            λ k is. let same : kind.Server ≡ k = cc in
+            subst (λ (z : Kind). OfKind z (found_object (with_found o old))) same
+            (subst (OfKind kind.Server) (sym own) is_server);
         owned = λ u is used. absurd (cc);
         came = λ u is used. absurd (cc);
       }

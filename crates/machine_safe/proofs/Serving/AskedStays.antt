@@ -66,7 +66,8 @@ unset-move by (Begin d v x) ms script S t u s fits proper apart was =
     ]
 unset-move by (Complete d v x code) ms script S t u s fits proper apart was =
     let r = S.synchronization.requests in
-    let other : u.0 ≡ v.0 → s ≡ x → ⊥ = λ at same. was.free d (fits.0.1 ∙ ap Some (ap (λ (w : ObjNo). of_status w x) (same_object v u (sym at)) ∙ ap (of_status u) (sym same))) in
+    let other : u.0 ≡ v.0 → s ≡ x → ⊥ = λ at same. was.free d
+    (fits.0.1 ∙ ap Some (ap (λ (w : ObjNo). of_status w x) (same_object v u (sym at)) ∙ ap (of_status u) (sym same))) in
     record {
       done = status_item (λ (value : ℤ). int_eq value pending ≡ false) r.statuses v x code u s (λ at same. absurd (other at same)) was.done;
       free = λ e is. elim (device_is r.devices d None e (of_status u s) is) as (λ _. ⊥) [
@@ -131,7 +132,8 @@ want-each script S t (Nano (Release v) ∷ ms) by u fits proper apart undoomed i
     let doomed = proper.0 in
     let other : u.0 ≡ v.0 → ⊥ = λ at.
     let same : 0 < total (doomed_bit u) ms = subst (λ (x : ObjNo). 0 < total (doomed_bit x) ms) (same_object v u (sym at)) doomed in omega arith in
-    want-each script (moved t (Nano (Release v)) S) t ms (onward by (Nano (Release v))) u fits.1 proper.1 apart (omega arith) (want-set S.synchronization.nano.wants v u None other is)
+    want-each script (moved t (Nano (Release v)) S) t ms (onward by (Nano (Release v))) u fits.1 proper.1 apart
+    (omega arith) (want-set S.synchronization.nano.wants v u None other is)
 want-each script S t (Nano m ∷ ms) by u fits proper apart undoomed is =
     want-each script (moved t (Nano m) S) t ms (onward by (Nano m)) u fits.1 proper.1 apart (omega arith) is
 want-each script S t (Pay what ∷ ms) by u fits proper apart undoomed is = absurd fits.0

@@ -26,7 +26,8 @@ awake script S t row here may going = by (is_able script S t) refl
         let able = and_parts (is_ready script S t) (is_none (wanted_holder S.synchronization.nano t)) e in
         let ready = and_parts (not (is_waiting S t) && not (is_stopped S t)) (is_some (task_of script S t)) able.0 in
         let still = and_parts (not (is_waiting S t)) (not (is_stopped S t)) ready.0 in
-        waits-not row.waiting (S.mode.shared && is_returning row.part) (sym (ap (λ (r : Option ThreadRow). not (is_waiting_row S.mode.shared r)) here) ∙ still.0)
+        waits-not row.waiting (S.mode.shared && is_returning row.part)
+        (sym (ap (λ (r : Option ThreadRow). not (is_waiting_row S.mode.shared r)) here) ∙ still.0)
     by false e =
         let out : is_out S t ≡ true = ap (λ (b : Bool). b || is_out S t) (sym e) ∙ may in
         let back = and_parts S.mode.shared (is_returning (part_of (thread_of S t))) out in

@@ -69,7 +69,8 @@ use Rattle.machine_laws.proofs.Fitting.Actions.{regular-action}
 use Rattle.machine_safe.proofs.Serving.Connecting.{KeepHandles}
 
 -- such an action ends nobody's instruction
-unanswered : (t : ObjNo) (actor : Actor) (ms : List Move) (answer : Option ℤ) (k : ObjNo) → total advance_bit ms ≡ 0 → is_by k actor ≡ false → steps_of t ms k.0 ≡ (if is_by k actor && is_some answer then 1 else 0) + 0
+unanswered : (t : ObjNo) (actor : Actor) (ms : List Move) (answer : Option ℤ) (k : ObjNo) → total advance_bit ms ≡ 0
+    → is_by k actor ≡ false → steps_of t ms k.0 ≡ (if is_by k actor && is_some answer then 1 else 0) + 0
 unanswered t actor ms answer k none nobody = by (t.0 == k.0) (is_by k actor) nobody
   where
     by : (b c : Bool) → c ≡ false → (if b then total advance_bit ms else 0) ≡ (if c && is_some answer then 1 else 0) + 0
@@ -78,7 +79,10 @@ unanswered t actor ms answer k none nobody = by (t.0 == k.0) (is_by k actor) nob
     by b true e = absurd (cc)
 
 -- an action of which no thread is the actor: it answers nothing, and serves nobody
-pub turn-without : (script : Script) (before : List Entry) (S : State) (place : ℕ) (t : ObjNo) (actor : Actor) (d : Decision) → AreRows script S → Book script before S → ((u : ObjNo) → is_by u actor ≡ false) → d.answer ≡ None → is_send d.step ≡ false → IsTame plain 0 d.moves → Doing script S t d.moves
+pub turn-without : (script : Script) (before : List Entry) (S : State) (place : ℕ) (t : ObjNo) (actor : Actor)
+    (d : Decision)
+    → AreRows script S → Book script before S → ((u : ObjNo) → is_by u actor ≡ false) → d.answer ≡ None
+    → is_send d.step ≡ false → IsTame plain 0 d.moves → Doing script S t d.moves
     → IsTurn script before (entry_of place actor (record { step = d.step; effects = tell t d.moves S; answer = d.answer })) (perform t d.moves S)
 turn-without script before S place t actor d rows book nobody silent unsent calm does =
     let e = entry_of place actor (record { step = d.step; effects = tell t d.moves S; answer = d.answer }) in
@@ -104,14 +108,21 @@ turn-without script before S place t actor d rows book nobody silent unsent calm
 abbrev pub IsFated : List Entry → State → Type 0
 IsFated before S = (u : ObjNo) (row : ThreadRow) → thread_of S u ≡ Some row → row_bit stage_live (Some row) + dooms (effects_of before) u ≡ 1
 
-module _ (script : Script) (before : List Entry) (S : State) (place : ℕ) (shaped : IsShaped script) (rows : AreRows script S) (book : Book script before S) (looked : Looked script before S) (kept : KeepHandles script S) (fate : IsFated before S) where
+module _ (script : Script) (before : List Entry) (S : State) (place : ℕ) (shaped : IsShaped script)
+    (rows : AreRows script S) (book : Book script before S) (looked : Looked script before S) (kept : KeepHandles script S)
+    (fate : IsFated before S) where
   -- an action of a thread
-  each-turn : (t : ObjNo) → OfEach S t (instruction_in script before t) (λ (d : Decision). (k : Kinds) → IsRegular k script S t d → Doing script S t d.moves → IsTurn script before (entry_for place t S d) (perform t d.moves S))
+  each-turn : (t : ObjNo)
+      → OfEach S t (instruction_in script before t)
+      (λ (d : Decision). (k : Kinds) → IsRegular k script S t d → Doing script S t d.moves
+      → IsTurn script before (entry_for place t S d) (perform t d.moves S))
   each-turn t = record {
     keeps = λ d is k regular. turn-keeps script before S place t rows book d regular looked is;
     sends = λ d is k regular does. turn-sends script before S place t rows book looked d regular is does fate;
     finishes = λ d is k regular does. turn-finishes script before S place t rows book d regular is does fate;
-    makes = λ d is k regular does. turn-makes script before S place t rows book d regular is does (λ u live. let a = fate u live.row live.is in let b = ap stage_live live.live in omega arith);
+    makes =
+        λ d is k regular does. turn-makes script before S place t rows book d regular is does
+        (λ u live. let a = fate u live.row live.is in let b = ap stage_live live.live in omega arith);
     joins = λ d is k regular. turn-joins script before S place t rows book d regular is;
     closes = λ d is k regular. turn-closes script before S place t rows book d regular is;
     stops = λ d is k regular. turn-stops script before S place t rows book d regular is;
@@ -119,14 +130,26 @@ module _ (script : Script) (before : List Entry) (S : State) (place : ℕ) (shap
 
   turn-act : (t : ObjNo) → IsTurn script before (entry_of place (Thread t) (act script S t).outcome) (act script S t).state
   unfolding act
-  turn-act t = deed-of script S t (instruction_in script before t) _ (each-turn t) shaped rows kept (λ row is. at-instruction script before S t row book is) (regular-action script S t shaped rows).0 (regular-action script S t shaped rows).1 (doing script S t shaped rows)
+  turn-act t =
+      deed-of script S t (instruction_in script before t) _ (each-turn t) shaped rows kept
+      (λ row is. at-instruction script before S t row book is) (regular-action script S t shaped rows).0
+      (regular-action script S t shaped rows).1 (doing script S t shaped rows)
 
-  turn-done : (actor : Actor) (plan : Plan) → ((u : ObjNo) → is_by u actor ≡ false) → (decision_by script supervisor S plan).answer ≡ None → is_send (decision_by script supervisor S plan).step ≡ false → IsTame plain 0 (decision_by script supervisor S plan).moves → Goes script supervisor S (decision_by script supervisor S plan).moves → IsTurn script before (entry_of place actor (done_by script S plan).outcome) (done_by script S plan).state
-  turn-done actor plan nobody silent unsent calm goes = turn-without script before S place supervisor actor (decision_by script supervisor S plan) rows book nobody silent unsent calm (doing-by script S plan rows goes)
+  turn-done : (actor : Actor) (plan : Plan) → ((u : ObjNo) → is_by u actor ≡ false)
+      → (decision_by script supervisor S plan).answer ≡ None
+      → is_send (decision_by script supervisor S plan).step ≡ false
+      → IsTame plain 0 (decision_by script supervisor S plan).moves
+      → Goes script supervisor S (decision_by script supervisor S plan).moves
+      → IsTurn script before (entry_of place actor (done_by script S plan).outcome) (done_by script S plan).state
+  turn-done actor plan nobody silent unsent calm goes =
+      turn-without script before S place supervisor actor
+      (decision_by script supervisor S plan) rows book nobody silent unsent calm (doing-by script S plan rows goes)
 
   turn-interrupt : (k : ℕ) → IsTurn script before (entry_of place (Irq k) (interrupt script S k).outcome) (interrupt script S k).state
   unfolding interrupt
-  turn-interrupt k = turn-done (Irq k) (Runs (Interrupt k)) (λ u. refl) refl refl (light-interrupt script S k shaped rows).calm (goes-interrupt script S k shaped rows)
+  turn-interrupt k =
+      turn-done (Irq k) (Runs (Interrupt k)) (λ u. refl) refl refl (light-interrupt script S k shaped rows).calm
+      (goes-interrupt script S k shaped rows)
 
   silent-plan : (found : Option Item) → (decision_by script supervisor S (immediate_plan script S found)).answer ≡ None
   silent-plan None = refl
@@ -149,13 +172,21 @@ module _ (script : Script) (before : List Entry) (S : State) (place : ℕ) (shap
   turn-immediate : IsTurn script before (entry_of place Idfc (immediate script S).outcome) (immediate script S).state
   unfolding immediate
   turn-immediate =
-      let found = next_immediate S.synchronization.deferred in turn-done Idfc (immediate_plan script S found) (λ u. refl) (silent-plan found) (unsent-plan found) (light-immediate script S found shaped rows refl).calm (goes-immediate script S found shaped rows refl)
+      let found = next_immediate S.synchronization.deferred in
+      turn-done Idfc (immediate_plan script S found) (λ u. refl) (silent-plan found) (unsent-plan found)
+      (light-immediate script S found shaped rows refl).calm (goes-immediate script S found shaped rows refl)
 
   turn-tick : IsTurn script before (entry_of place Tick (tick S).outcome) (tick S).state
-  turn-tick = turn-without script before S place supervisor Tick (record { step = step.Turn; moves = []; answer = None }) rows book (λ u. refl) refl refl (tame-moves [] refl refl) (inr (inr refl))
+  turn-tick =
+      turn-without script before S place supervisor Tick
+      (record { step = step.Turn; moves = []; answer = None }) rows book (λ u. refl) refl refl (tame-moves [] refl refl)
+      (inr (inr refl))
 
   turn-idle : IsTurn script before (entry_of place Idle (idle S).outcome) (idle S).state
-  turn-idle = turn-without script before S place supervisor Idle (record { step = step.Wait; moves = []; answer = None }) rows book (λ u. refl) refl refl (tame-moves [] refl refl) (inr (inr refl))
+  turn-idle =
+      turn-without script before S place supervisor Idle
+      (record { step = step.Wait; moves = []; answer = None }) rows book (λ u. refl) refl refl (tame-moves [] refl refl)
+      (inr (inr refl))
 
   turn-next : (actor : Actor) → IsTurn script before (entry_by script S place actor) (next script S actor)
   turn-next (Thread t) = turn-act t
@@ -181,7 +212,13 @@ book-boot shared script shaped = record {
     unmade = λ o past. refl;
     told_made = λ s v is. absurd (cc);
     told_linked = λ s v is alive. absurd (cc);
-    places = λ k row is. record { first = row; is = is; role = refl; place = (born_row script _ (born script) k row (each_born script shaped) is).next_instruction };
+    places =
+        λ k row is. record {
+          first = row;
+          is = is;
+          role = refl;
+          place = (born_row script _ (born script) k row (each_born script shaped) is).next_instruction;
+        };
   };
   letters = record {
     accepted = refl;

@@ -40,7 +40,8 @@ pub record AreCalled (script : Script) (r : DeferredRows) : Type 0 where
   pub waiting : AllByRecursion (IsDeclared script) r.immediate
 
 -- lists of such calls
-all-if : {A : Type 0} (P : A → Type 0) (queued : Bool) (xs : List A) (x : A) → P x → AllByRecursion P xs → AllByRecursion P (if queued then xs else xs ++ x ∷ [])
+all-if : {A : Type 0} (P : A → Type 0) (queued : Bool) (xs : List A) (x : A) → P x → AllByRecursion P xs
+    → AllByRecursion P (if queued then xs else xs ++ x ∷ [])
 all-if P true xs x p all = all
 all-if P false xs x p all = all-both P xs (x ∷ []) all (p, tt)
 
@@ -61,21 +62,44 @@ all-left P None queue all = all
 all-left P (Some dfc) queue all = all-filter P (λ other. not (other == dfc)) queue all
 
 -- a call that is added, or isn't, since it is queued
-added : (script : Script) (r : DeferredRows) (b : Bool) (queue dfc q : ℕ) → IsCalled script dfc → ((k : ℕ) → AllByRecursion (IsCalled script) (queue_at r k)) → AllByRecursion (IsCalled script) (get_or (if b then r.queues else slice_set r.queues queue (queue_at r queue ++ dfc ∷ [])) q [])
+added : (script : Script) (r : DeferredRows) (b : Bool) (queue dfc q : ℕ) → IsCalled script dfc
+    → ((k : ℕ) → AllByRecursion (IsCalled script) (queue_at r k))
+    → AllByRecursion (IsCalled script) (get_or
+    (if b then r.queues else slice_set r.queues queue (queue_at r queue ++ dfc ∷ [])) q [])
 added script r true queue dfc q is all = all q
-added script r false queue dfc q is all = set_item (AllByRecursion (IsCalled script)) r.queues queue q (queue_at r queue ++ dfc ∷ []) [] (λ at. all-both (IsCalled script) (queue_at r queue) (dfc ∷ []) (all queue) (is, tt)) (all q)
+added script r false queue dfc q is all =
+    set_item (AllByRecursion (IsCalled script)) r.queues queue q (queue_at r queue ++ dfc ∷ []) []
+    (λ at. all-both (IsCalled script) (queue_at r queue) (dfc ∷ []) (all queue) (is, tt)) (all q)
 
-called-moved : (script : Script) (by : Going) (m : DeferredMove) (ms : List Move) (r : DeferredRows) → AreCalls script r → FitsDeferred m r → IsProper script by (Deferred m) ms → AreCalled script r → AreCalled script (deferred_moved m r)
-called-moved script by (AddImmediate call) ms r calls fits is h = record { queued = h.queued; waiting = all-if (IsDeclared script) (is_queued r (item.Idfc call)) r.immediate (item.Idfc call) (let sized = calls.idfcs in some-inside script.idfcs call (omega arith)) h.waiting }
-called-moved script by (AddFromInterrupt dfc) ms r calls fits is h = record { queued = h.queued; waiting = all-if (IsDeclared script) (is_queued r (item.Move dfc)) r.immediate (item.Move dfc) is h.waiting }
-called-moved script by (Add dfc queue) ms r calls fits is h = record { queued = λ q. added script r (is_queued r (item.Move dfc)) (queue_of r dfc) dfc q is h.queued; waiting = h.waiting }
+called-moved : (script : Script) (by : Going) (m : DeferredMove) (ms : List Move) (r : DeferredRows) → AreCalls script r
+    → FitsDeferred m r → IsProper script by (Deferred m) ms → AreCalled script r → AreCalled script (deferred_moved m r)
+called-moved script by (AddImmediate call) ms r calls fits is h = record {
+  queued = h.queued;
+  waiting =
+      all-if (IsDeclared script) (is_queued r (item.Idfc call)) r.immediate (item.Idfc call)
+      (let sized = calls.idfcs in some-inside script.idfcs call (omega arith)) h.waiting;
+}
+called-moved script by (AddFromInterrupt dfc) ms r calls fits is h = record {
+  queued = h.queued;
+  waiting = all-if (IsDeclared script) (is_queued r (item.Move dfc)) r.immediate (item.Move dfc) is h.waiting;
+}
+called-moved script by (Add dfc queue) ms r calls fits is h = record {
+  queued = λ q. added script r (is_queued r (item.Move dfc)) (queue_of r dfc) dfc q is h.queued;
+  waiting = h.waiting;
+}
 called-moved script by TakeImmediate ms r calls fits is h = record { queued = h.queued; waiting = all-drop (IsDeclared script) r.immediate h.waiting }
-called-moved script by (Take queue) ms r calls fits is h = record { queued = λ q. set_item (AllByRecursion (IsCalled script)) r.queues queue q (left (next_of r queue) (queue_at r queue)) [] (λ at. all-left (IsCalled script) (next_of r queue) (queue_at r queue) (h.queued queue)) (h.queued q); waiting = h.waiting }
+called-moved script by (Take queue) ms r calls fits is h = record {
+  queued =
+      λ q. set_item (AllByRecursion (IsCalled script)) r.queues queue q (left (next_of r queue) (queue_at r queue)) []
+      (λ at. all-left (IsCalled script) (next_of r queue) (queue_at r queue) (h.queued queue)) (h.queued q);
+  waiting = h.waiting;
+}
 
 abbrev pub Called : Script → State → Type 0
 Called script S = AreCalled script S.synchronization.deferred
 
-called-move : (script : Script) (by : Going) (S : State) (t : ObjNo) (m : Move) (ms : List Move) → AreRows script S → FitsMove script t m S → IsProper script by m ms → Called script S → Called script (moved t m S)
+called-move : (script : Script) (by : Going) (S : State) (t : ObjNo) (m : Move) (ms : List Move) → AreRows script S
+    → FitsMove script t m S → IsProper script by m ms → Called script S → Called script (moved t m S)
 called-move script by S t (Deferred m) ms rows fits is h = called-moved script by m ms S.synchronization.deferred rows.synchronization.deferred fits is h
 called-move script by S t (Pay what) ms rows fits is h = absurd fits
 called-move script by S t m ms rows fits is h = h
@@ -104,7 +128,8 @@ unfolding boot_of
 called-boot shared script = record { queued = λ q. none-queued script _ q; waiting = tt }
 
 -- so is the call that comes next
-chosen-greater : (P : ℕ → Type 0) (weight : ℕ → ℕ) (y x : ℕ) (later : Option ℕ) → P y → ((z : ℕ) → later ≡ Some z → P z) → unless_greater weight y later ≡ Some x → P x
+chosen-greater : (P : ℕ → Type 0) (weight : ℕ → ℕ) (y x : ℕ) (later : Option ℕ) → P y → ((z : ℕ) → later ≡ Some z → P z)
+    → unless_greater weight y later ≡ Some x → P x
 chosen-greater P weight y x None first rest is = let same : y ≡ x = cc in subst P same first
 chosen-greater P weight y x (Some z) first rest is = by (nat_lt (weight y) (weight z)) is
   where

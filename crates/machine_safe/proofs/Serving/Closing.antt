@@ -87,7 +87,9 @@ module _ (script : Script) (r : Reading) (S : State) (t : ObjNo) (done : Step) (
         let a = closings_more o in
         let b = dooms-append r.effects fs w in
         let c = closed-dooms (dies (begun v) v) holder v w in
-        closing-count now_told o w is ∙ ap (nat_lt 0) (let equal : now_told.closings o + dooms now_told.effects w ≡ r.closings o + same v o + dooms r.effects w = omega arith in equal)
+        closing-count now_told o w is
+        ∙ ap (nat_lt 0) (let equal : now_told.closings o + dooms now_told.effects w
+        ≡ r.closings o + same v o + dooms r.effects w = omega arith in equal)
 
     row_now : (o : ObjNo) (row : ServerRow) → server_at gone.serving.servers o ≡ Some row → IsServed now_told gone o row
     row_now o row is =
@@ -104,14 +106,20 @@ module _ (script : Script) (r : Reading) (S : State) (t : ObjNo) (done : Step) (
           made = let a = old.made in let b = k.objects in omega arith;
           owner = owner;
           closing = bit-is row.is_closing (r.closings o + same v o + dooms r.effects row.owner)
-              (λ so. some_now o row.is_closing one.old.is_closing was.0.is_closing (r.closings o) (dooms r.effects was.0.owner) (dooms r.effects row.owner) so (λ e not. let none = one.began e not in absurd (omega arith)) was.4 count equal)
+              (λ so. some_now o row.is_closing one.old.is_closing was.0.is_closing (r.closings o)
+              (dooms r.effects was.0.owner) (dooms r.effects row.owner) so
+              (λ e not. let none = one.began e not in absurd (omega arith)) was.4 count equal)
               (λ not. let zero = bit-none was.0.is_closing (r.closings o + dooms r.effects was.0.owner) count (old_not not) in
-              let apart : same v o ≡ 0 = if_not (v.0 == o.0) 1 (eqb_apart v.0 o.0 (λ at. let so = was.5 at in let no_so = first_not not in absurd (cc))) in omega arith)
+              let apart : same v o ≡ 0 = if_not (v.0 == o.0) 1
+              (eqb_apart v.0 o.0 (λ at. let so = was.5 at in let no_so = first_not not in absurd (cc))) in omega arith)
               ∙ sym (closing_now o row.owner owner);
-          owned = λ not. subst (λ (u : ObjNo). 0 < times_owned gone.serving.owned u o) own (subst (λ (l : List (List ObjNo)). 0 < times_owned l was.0.owner o) (sym k.owned) (old.owned (old_not not)));
+          owned =
+              λ not. subst (λ (u : ObjNo). 0 < times_owned gone.serving.owned u o) own
+              (subst (λ (l : List (List ObjNo)). 0 < times_owned l was.0.owner o) (sym k.owned) (old.owned (old_not not)));
         }
       where
-        some_now : (o : ObjNo) (b c d : Bool) (n m l : ℕ) → b ≡ true → (b ≡ true → c ≡ false → ⊥) → (c ≡ true → d ≡ false → v.0 ≡ o.0) → d ≡ nat_lt 0 (n + m) → l ≡ m → 0 < n + same v o + l
+        some_now : (o : ObjNo) (b c d : Bool) (n m l : ℕ) → b ≡ true → (b ≡ true → c ≡ false → ⊥)
+            → (c ≡ true → d ≡ false → v.0 ≡ o.0) → d ≡ nat_lt 0 (n + m) → l ≡ m → 0 < n + same v o + l
         some_now o b true true n m l so one two is equal = let some = bit-some true (n + m) is refl in omega arith
         some_now o b true false n m l so one two is equal = let at = if_is (v.0 == o.0) 1 (eq-eqb v.0 o.0 (two refl refl)) in omega arith
         some_now o b false d n m l so one two is equal = absurd (one so refl)
@@ -122,9 +130,17 @@ module _ (script : Script) (r : Reading) (S : State) (t : ObjNo) (done : Step) (
     pub served-closing : Served script now_told gone
     served-closing = record {
       rows = row_now;
-      links = λ s o is. server_told-append r.effects fs s ∙ (ap (λ (x : Option ObjNo). or_before x (server_told r.effects s)) (k.unlinked s) ∙ h.links s o (k.links s o is));
-      ended = λ o some. let a = ends-append r.effects fs o in let b = k.unended o in keeps-closing (begun v) gone t (Lose holder v ∷ []) fs o k (closing-stays v S.serving.servers o (h.ended o (omega arith)));
-      over = λ u o some. ap (λ (l : List (List ObjNo)). times_owned l u o) k.owned ∙ h.over u o (let a = ends-append r.effects fs o in let b = k.unended o in omega arith);
+      links =
+          λ s o is. server_told-append r.effects fs s
+          ∙ (ap (λ (x : Option ObjNo). or_before x (server_told r.effects s)) (k.unlinked s)
+          ∙ h.links s o (k.links s o is));
+      ended =
+          λ o some. let a = ends-append r.effects fs o in let b = k.unended o in
+          keeps-closing (begun v) gone t (Lose holder v ∷ []) fs o k
+          (closing-stays v S.serving.servers o (h.ended o (omega arith)));
+      over =
+          λ u o some. ap (λ (l : List (List ObjNo)). times_owned l u o) k.owned
+          ∙ h.over u o (let a = ends-append r.effects fs o in let b = k.unended o in omega arith);
       made = λ u o is. elim (h.made u o (sym (owner_same o) ∙ is)) as (λ _. (0 < times_owned gone.serving.owned u o) ⊎ (0 < ends (r.effects ++ fs) o)) [
         | inl owned ↦ inl (subst (λ (l : List (List ObjNo)). 0 < times_owned l u o) (sym k.owned) owned)
         | inr over ↦ inr (let a = ends-append r.effects fs o in omega arith)
@@ -141,20 +157,25 @@ module _ (script : Script) (r : Reading) (S : State) (t : ObjNo) (done : Step) (
       told_linked = λ s o is alive.
           let was = told_first s o is in
           let inside = h.told_made s o was in
-          elim (h.told_linked s o was (k.alive s inside alive)) as (λ _. (server_of gone.serving.servers s ≡ Some o) ⊎ (is_closing gone.serving.servers o ≡ true)) [
+          elim (h.told_linked s o was (k.alive s inside alive)) as
+          (λ _. (server_of gone.serving.servers s ≡ Some o) ⊎ (is_closing gone.serving.servers o ≡ true)) [
             | inr closing ↦ inr (keeps-closing (begun v) gone t (Lose holder v ∷ []) fs o k (closing-stays v S.serving.servers o closing))
-            | inl linked ↦ elim (k.linked s o inside linked) as (λ _. (server_of gone.serving.servers s ≡ Some o) ⊎ (is_closing gone.serving.servers o ≡ true)) [
-              | inl still ↦ inl still
-              | inr other ↦ elim other as (λ _. (server_of gone.serving.servers s ≡ Some o) ⊎ (is_closing gone.serving.servers o ≡ true)) [
-                | inl dead ↦ absurd (dead alive)
-                | inr detached ↦ let none = undetached holder v o handle in absurd (omega arith)
-              ]
-            ]
+            | inl linked ↦
+                elim (k.linked s o inside linked) as
+                (λ _. (server_of gone.serving.servers s ≡ Some o) ⊎ (is_closing gone.serving.servers o ≡ true)) [
+                  | inl still ↦ inl still
+                  | inr other ↦ elim other as (λ _. (server_of gone.serving.servers s ≡ Some o) ⊎ (is_closing gone.serving.servers o ≡ true)) [
+                    | inl dead ↦ absurd (dead alive)
+                    | inr detached ↦ let none = undetached holder v o handle in absurd (omega arith)
+                  ]
+                ]
           ];
     }
 
   -- a server stops
-  module _ (v : ObjNo) (makes : makes_server done ≡ false) (may : MayEnd S v) (inside : t.0 < length S.serving.owned) (once : times_owned S.serving.owned t v ≡ 1) (alone : (u : ObjNo) → 0 < times_owned S.serving.owned u v → u.0 ≡ t.0) where
+  module _ (v : ObjNo) (makes : makes_server done ≡ false) (may : MayEnd S v) (inside : t.0 < length S.serving.owned)
+      (once : times_owned S.serving.owned t v ≡ 1)
+      (alone : (u : ObjNo) → 0 < times_owned S.serving.owned u v → u.0 ≡ t.0) where
     abbrev stopped : State
     stopped = moved t (Lose (Own t) v) (moved t (Servers (End v)) S)
 
@@ -178,7 +199,9 @@ module _ (script : Script) (r : Reading) (S : State) (t : ObjNo) (done : Step) (
         let a = closings_kept o in
         let b = dooms-append r.effects told_then w in
         let c = closed-dooms last (Own t) v w in
-        closing-count after o w is ∙ ap (nat_lt 0) (let equal : after.closings o + dooms after.effects w ≡ r.closings o + dooms r.effects w = omega arith in equal)
+        closing-count after o w is
+        ∙ ap (nat_lt 0) (let equal : after.closings o + dooms after.effects w
+        ≡ r.closings o + dooms r.effects w = omega arith in equal)
 
     fewer : (u o : ObjNo) → times_owned stopped.serving.owned u o + (if t.0 == u.0 then same v o else 0) ≡ times_owned S.serving.owned u o
     fewer u o = held-not_holding S.serving.owned t v u o inside once
@@ -202,7 +225,9 @@ module _ (script : Script) (r : Reading) (S : State) (t : ObjNo) (done : Step) (
     ends_more o = let a = ends-append r.effects told_then o in let b = (unlinking-close last (Own t) v).unended o in omega arith
 
     told_earlier : (s o : ObjNo) → server_told (r.effects ++ told_then) s ≡ Some o → server_told r.effects s ≡ Some o
-    told_earlier s o is = sym (server_told-append r.effects told_then s ∙ ap (λ (x : Option ObjNo). or_before x (server_told r.effects s)) ((unlinking-close last (Own t) v).unlinked s)) ∙ is
+    told_earlier s o is = sym (server_told-append r.effects told_then s
+        ∙ ap (λ (x : Option ObjNo). or_before x (server_told r.effects s)) ((unlinking-close last (Own t) v).unlinked s))
+        ∙ is
 
     pub served-stopped : Served script after stopped
     served-stopped = record {
@@ -214,17 +239,26 @@ module _ (script : Script) (r : Reading) (S : State) (t : ObjNo) (done : Step) (
             owner = owner;
             closing = old.closing ∙ (closing-count r o row.owner old.owner ∙ sym (closing_kept o row.owner owner));
             owned = λ not.
-                let apart : v.0 ≡ o.0 → ⊥ = λ at. let so : is_closing S.serving.servers o ≡ true = ap (λ (n : ℕ). closes (get_or S.serving.servers.servers n None)) (sym at) ∙ may.closing in let now = sym (ap closes is) ∙ so in absurd (cc) in
+                let apart : v.0 ≡ o.0 → ⊥ = λ at. let so : is_closing S.serving.servers o
+                ≡ true = ap (λ (n : ℕ). closes (get_or S.serving.servers.servers n None)) (sym at) ∙ may.closing in
+                let now = sym (ap closes is) ∙ so in
+                absurd (cc) in
                 let a = owned_other row.owner o apart in let b = old.owned not in omega arith;
           };
-      links = λ s o is. server_told-append r.effects told_then s ∙ (ap (λ (x : Option ObjNo). or_before x (server_told r.effects s)) ((unlinking-close last (Own t) v).unlinked s) ∙ h.links s o (link-closed last v S.serving.servers s o is));
+      links =
+          λ s o is. server_told-append r.effects told_then s
+          ∙ (ap (λ (x : Option ObjNo). or_before x (server_told r.effects s)) ((unlinking-close last (Own t) v).unlinked s)
+          ∙ h.links s o (link-closed last v S.serving.servers s o is));
       ended = λ o some. elim (cases_eq v.0 o.0) as (λ _. is_closing S.serving.servers o ≡ true) [
         | inl at ↦ ap (λ (n : ℕ). closes (get_or S.serving.servers.servers n None)) (sym at) ∙ may.closing
         | inr apart ↦ h.ended o (let a = ends_more o in let none : same v o ≡ 0 = if_not (v.0 == o.0) 1 (eqb_apart v.0 o.0 apart) in omega arith)
       ];
       over = λ u o some. elim (cases_eq v.0 o.0) as (λ _. times_owned stopped.serving.owned u o ≡ 0) [
         | inl at ↦ ap (times_owned stopped.serving.owned u) (sym (same_object v o at)) ∙ nobodys u
-        | inr apart ↦ owned_other u o apart ∙ h.over u o (let a = ends_more o in let none : same v o ≡ 0 = if_not (v.0 == o.0) 1 (eqb_apart v.0 o.0 apart) in omega arith)
+        | inr apart ↦
+            owned_other u o apart
+            ∙ h.over u o (let a = ends_more o in let none : same v o
+            ≡ 0 = if_not (v.0 == o.0) 1 (eqb_apart v.0 o.0 apart) in omega arith)
       ];
       made = λ u o is. elim (cases_eq v.0 o.0) as (λ _. (0 < times_owned stopped.serving.owned u o) ⊎ (0 < ends after.effects o)) [
         | inl at ↦ inr (let a = ends_more o in let one = if_is (v.0 == o.0) 1 (eq-eqb v.0 o.0 at) in omega arith)
@@ -239,11 +273,15 @@ module _ (script : Script) (r : Reading) (S : State) (t : ObjNo) (done : Step) (
           let old = h.places n w.old w.was in
           record { first = old.first; is = old.is; role = old.role ∙ w.role; place = let a = w.place in let b = old.place in omega arith };
       told_made = λ s o is. let a = closed-long last v S.references.objects in let inside = h.told_made s o (told_earlier s o is) in omega arith;
-      told_linked = λ s o is alive. elim (h.told_linked s o (told_earlier s o is) (alive-closed last v S.references.objects s alive)) as (λ _. (server_of stopped.serving.servers s ≡ Some o) ⊎ (is_closing stopped.serving.servers o ≡ true)) [
-        | inl linked ↦ elim (linked-closed last v S.references.objects S.serving.servers s o linked) as (λ _. (server_of stopped.serving.servers s ≡ Some o) ⊎ (is_closing stopped.serving.servers o ≡ true)) [
-          | inl still ↦ inl still
-          | inr dead ↦ absurd (dead alive)
-        ]
-        | inr closing ↦ inr closing
-      ];
+      told_linked =
+          λ s o is alive. elim (h.told_linked s o (told_earlier s o is) (alive-closed last v S.references.objects s alive))
+          as (λ _. (server_of stopped.serving.servers s ≡ Some o) ⊎ (is_closing stopped.serving.servers o ≡ true)) [
+            | inl linked ↦
+                elim (linked-closed last v S.references.objects S.serving.servers s o linked) as
+                (λ _. (server_of stopped.serving.servers s ≡ Some o) ⊎ (is_closing stopped.serving.servers o ≡ true)) [
+                  | inl still ↦ inl still
+                  | inr dead ↦ absurd (dead alive)
+                ]
+            | inr closing ↦ inr closing
+          ];
     }

@@ -90,7 +90,8 @@ next-is r v m e = by r.outstanding e
             → (number_of (slice_get (filter (waits_at v.0) xs) 0) ≡ Some m → IsNext xs m v)
             → number_of (slice_get (if b then x ∷ filter (waits_at v.0) xs else filter (waits_at v.0) xs) 0) ≡ Some m
             → IsNext (x ∷ xs) m v
-        one true is rest e = let same : x.number ≡ m = cc in (x, contains_first xs x, same, eqb-true x.row.server.0 v.0 (and_parts (is_at v.0 x) (not x.row.taken) is).0)
+        one true is rest e = let same : x.number ≡ m = cc in
+            (x, contains_first xs x, same, eqb-true x.row.server.0 v.0 (and_parts (is_at v.0 x) (not x.row.taken) is).0)
         one false is rest e = let more = rest e in (more.0, contains_behind x xs more.0 more.1, more.2, more.3)
 
 -- where one of another server is taken it stays, and where an argument of one is changed

@@ -229,7 +229,11 @@ module _ (script : Script) (S : State) (t : ObjNo) (old : ThreadRow) (here : thr
   gives-opened : (k : Kind) (name : List ℕ) (x : ℕ) (o : ObjNo) (handle : Option NewHandle) → Given handle → old.uses ≡ Some o
       → Comes (instr.Open k name x) (Some part.Do) (give_handle t (Of word.Open part.Do) o x handle)
   gives-opened k name x o None given e = answers _ refl refl (tt, tt)
-  gives-opened k name x o (Some handle) given e = opens k o _ refl e refl refl (λ other. (other-had (stepping S t) handle.holder o (given handle refl) other, (tt, (tt, tt))))
+  gives-opened k name x o (Some handle) given e =
+      opens k o _ refl e refl refl (λ other. (
+        other-had (stepping S t) handle.holder o (given handle refl) other,
+        (tt, (tt, tt)),
+      ))
 
   pub opened : (k : Kind) (name : List ℕ) (x : ℕ) (uses : Option ObjNo) → old.uses ≡ uses → Comes (instr.Open k name x) (Some part.Do) (open_do S t old x uses)
   opened k name x None e = idles (unused refl e) refl
@@ -240,7 +244,11 @@ module _ (script : Script) (S : State) (t : ObjNo) (old : ThreadRow) (here : thr
       → is_kind kind.Server k ≡ false → is_kind kind.Thread k ≡ false → process_handle S old.process ≡ handle
       → Comes i p (make_with_handle t k name start x handle)
   makes-object k name start x None server thread is = answers _ refl refl (tt, tt)
-  makes-object k name None x (Some handle) server thread is = answers _ refl refl (made-in-process (stepping S t) S old.process k handle server thread own-process is, (tt, (tt, tt)))
+  makes-object k name None x (Some handle) server thread is =
+      answers _ refl refl (
+        made-in-process (stepping S t) S old.process k handle server thread own-process is,
+        (tt, (tt, tt)),
+      )
   makes-object k name (Some start) x (Some handle) server thread is =
       answers _ refl refl (made-in-process (stepping S t) S old.process k handle server thread own-process is, (tt, (tt, (tt, tt))))
 

@@ -137,7 +137,8 @@ module _ (script : Script) (S : State) (t : ObjNo) (old : ThreadRow) (here : thr
   waits x (Some o) e fits =
       tests script S t old here rows (is_some (held_by S.synchronization.nano t)) word.Wait part.Do InUse
       (wait_on t o (count_at S.synchronization.locks o))
-      (λ no f. either script S t old here rows (count_at S.synchronization.locks o == 0) _ _ (waits-at word.Wait o (WaitOn o t) refl refl refl) (answers _ refl refl (tt, (tt, tt)))) fits
+      (λ no f. either script S t old here rows (count_at S.synchronization.locks o == 0) _ _
+      (waits-at word.Wait o (WaitOn o t) refl refl refl) (answers _ refl refl (tt, (tt, tt)))) fits
 
   signalled-best : (o w : ObjNo) (next : Option ObjNo) (count : ℕ) → best o ≡ next → signal_answer next count ≡ signalled.Woke w → best o ≡ Some w
   signalled-best o w None count is e = by (nat_lt count 2147483647) e

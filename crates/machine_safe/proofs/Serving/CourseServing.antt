@@ -114,7 +114,12 @@ module _ (script : Script) (S : State) (t : ObjNo) (old : ThreadRow) (here : thr
       → AreProper script (stepping S t) d.moves → FitsAction k script S t d → Comes i p d
   sent i d rest moves silent does still has early calm proper fits = goes part.Done has silent does proper (λ row is later.
       let each = subst (λ (l : List Move). EachFits script t l S) moves fits.goes.each in
-      record { part = behind-part part.Done rest each.1 still row later (ap (λ (l : List Move). thread_of (perform t l S) t) (sym moves) ∙ is); uses = λ needs. absurd (cc); met = λ own had asked. absurd (cc) })
+      record {
+        part = behind-part part.Done rest each.1 still row later
+            (ap (λ (l : List Move). thread_of (perform t l S) t) (sym moves) ∙ is);
+        uses = λ needs. absurd (cc);
+        met = λ own had asked. absurd (cc);
+      })
 
   pub calls-to : {k : Kinds} (x n : ℕ) (args : Args) (s : ObjNo) (function : ℤ) (more : List Arg)
       (server : Option ObjNo)
@@ -123,7 +128,17 @@ module _ (script : Script) (S : State) (t : ObjNo) (old : ThreadRow) (here : thr
   calls-to x n args s function more None opens fits = answers _ refl refl (tt, tt)
   calls-to x n args s function more (Some o) opens fits =
       let none = (tame-wake {k = plain} S o (owner_of S.serving.servers o)).goes refl in
-      sent (instr.Call x n args) (call_to S t s function more (Some o)) _ refl refl refl (omega arith) refl refl refl (tt, (refl, (open-accepts S s o opens, proper-any script t S (Some o) _ (proper-wake script S o (owner_of S.serving.servers o))))) fits
+      sent (instr.Call x n args) (call_to S t s function more (Some o)) _ refl refl refl (omega arith) refl refl refl (
+        tt,
+        (
+          refl,
+          (
+            open-accepts S s o opens,
+            proper-any script t S (Some o) _
+                (proper-wake script S o (owner_of S.serving.servers o)),
+          ),
+        ),
+      ) fits
 
   pub calls-over : {k : Kinds} (x n : ℕ) (args : Args) (function : ℤ) (more : List Arg) (uses : Option ObjNo)
       → old.uses ≡ uses → FitsAction k script S t (call_do S t function more uses)
@@ -161,14 +176,19 @@ module _ (script : Script) (S : State) (t : ObjNo) (old : ThreadRow) (here : thr
 
     receives-next : (o : ObjNo) (m : Option MsgNo) → old.uses ≡ Some o → old.part ≡ Some part.Do
         → Comes (instr.Receive x y) (Some part.Do) (receive_next t o y m)
-    receives-next o None e stands = goes part.Done refl refl refl (tt, (refl, tt)) (on-two script S t old here rows (instr.Receive x y) part.Done (with_part part.Done) (with_waiting (waiting.Receive o)) refl (λ needs. ap is_some e) (λ own had asked. waits-on o e had))
+    receives-next o None e stands = goes part.Done refl refl refl (tt, (refl, tt))
+        (on-two script S t old here rows (instr.Receive x y) part.Done (with_part part.Done)
+        (with_waiting (waiting.Receive o)) refl (λ needs. ap is_some e) (λ own had asked. waits-on o e had))
     receives-next o (Some m) e stands = answers _ refl refl (taking o e (ap (receiving (Some (instr.Receive x y))) stands), (tt, (tt, tt)))
 
     pub receives : {k : Kinds} (uses : Option ObjNo) → old.uses ≡ uses → old.part ≡ Some part.Do
         → FitsAction k script S t (receive_do S t y uses)
         → Comes (instr.Receive x y) (Some part.Do) (receive_do S t y uses)
     receives None e stands fits = idles (unused refl e) refl
-    receives (Some o) e stands fits = tests script S t old here rows (is_some (held_by S.synchronization.nano t)) word.Receive part.Do InUse (receive_next t o y (next_of S.serving.messages o)) (λ no f. receives-next o (next_of S.serving.messages o) e stands) fits
+    receives (Some o) e stands fits = tests script S t old here rows
+        (is_some (held_by S.synchronization.nano t)) word.Receive part.Do InUse
+        (receive_next t o y (next_of S.serving.messages o))
+        (λ no f. receives-next o (next_of S.serving.messages o) e stands) fits
 
     received : (o : ObjNo) (m : Option MsgNo) → old.uses ≡ Some o → old.part ≡ Some part.Done
         → next_of S.serving.messages o ≡ m → Comes (instr.Receive x y) (Some part.Done) (receive_came t o y m)
@@ -197,7 +217,9 @@ module _ (script : Script) (S : State) (t : ObjNo) (old : ThreadRow) (here : thr
   completes m code None e = answers _ refl refl (tt, tt)
   completes m code (Some message) e =
       let is = took (message_of S.serving.messages m) message e in
-      answers _ refl refl (proper-then script (stepping S t) (finish S message code) (Advance t ∷ []) refl (proper-any script t S None (finish S message code) (proper-finish script S rows message code (at_number S m message is.0) (inl is.1))) (tt, tt))
+      answers _ refl refl (proper-then script (stepping S t) (finish S message code) (Advance t ∷ []) refl
+      (proper-any script t S None (finish S message code)
+      (proper-finish script S rows message code (at_number S m message is.0) (inl is.1))) (tt, tt))
 
   pub functions : {i : Instr} {p : Option Part} (message : Option Message) → Comes i p (function_of t message)
   functions None = answers _ refl refl (tt, tt)
@@ -208,7 +230,9 @@ module _ (script : Script) (S : State) (t : ObjNo) (old : ThreadRow) (here : thr
       → thread_handle S t ≡ handle → Comes i p (make_server t (next_object S) name x handle)
   makes-server name x None is = answers _ refl refl (tt, tt)
   makes-server name x (Some handle) is =
-      let own : MayHave (stepping S t) handle.holder (next_object S) = subst (λ (h : Holder). MayHave (stepping S t) h (next_object S)) (sym (handle-holder true (InThread t) (table_of S t) handle is)) (inr (refl, refl)) in
+      let own : MayHave (stepping S t) handle.holder (next_object S) =
+      subst (λ (h : Holder). MayHave (stepping S t) h (next_object S))
+      (sym (handle-holder true (InThread t) (table_of S t) handle is)) (inr (refl, refl)) in
       answers _ refl refl ((refl, refl, refl), ((refl, refl), (own, (tt, (tt, tt)))))
 
   module _ (name : List ℕ) (slots : Slots) (x : ℕ) where
@@ -218,12 +242,20 @@ module _ (script : Script) (S : State) (t : ObjNo) (old : ThreadRow) (here : thr
     pub joins : (o : ObjNo) (handle : Option NewHandle) → thread_handle S t ≡ handle
         → Comes connects-as (Some part.Make) (make_session t o slots (next_object S) handle)
     joins o None is = answers _ refl refl (tt, tt)
-    joins o (Some handle) is = goes part.Send refl refl refl (made-in-thread (stepping S t) S t kind.Session handle refl refl is, (refl, (tt, (tt, (tt, tt))))) (λ row at later. record { part = part-after _ t (with_part part.Send) (Some part.Send) (λ r. refl) row at; uses = λ needs. absurd (cc); met = λ own had asked. absurd (cc) })
+    joins o (Some handle) is = goes part.Send refl refl refl
+        (made-in-thread (stepping S t) S t kind.Session handle refl refl is, (refl, (tt, (tt, (tt, tt)))))
+        (λ row at later. record {
+          part = part-after _ t (with_part part.Send) (Some part.Send) (λ r. refl) row at;
+          uses = λ needs. absurd (cc);
+          met = λ own had asked. absurd (cc);
+        })
 
     pub makes : (o : ObjNo) (server : Option ServerRow) → old.uses ≡ Some o → server_at S.serving.servers o ≡ server
         → Comes connects-as (Some part.Make) (connect_to S t slots o server)
     makes o None e is = idles (serverless o refl e is) refl
-    makes o (Some server) e is = either script S t old here rows server.is_closing _ _ (answers _ refl refl (tt, tt)) (either script S t old here rows (no_number_left S) _ _ (answers _ refl refl (tt, tt)) (joins o (thread_handle S t) refl))
+    makes o (Some server) e is = either script S t old here rows server.is_closing _ _ (answers _ refl refl (tt, tt))
+        (either script S t old here rows (no_number_left S) _ _ (answers _ refl refl (tt, tt))
+        (joins o (thread_handle S t) refl))
 
     pub makes-at : (uses : Option ObjNo) → old.uses ≡ uses → Comes connects-as (Some part.Make) (connect_make S t slots uses)
     makes-at None e = idles (unused refl e) refl
@@ -235,17 +267,32 @@ module _ (script : Script) (S : State) (t : ObjNo) (old : ThreadRow) (here : thr
     connects-to s None opens fits = answers _ refl refl (tt, (tt, tt))
     connects-to s (Some o) opens fits =
         let none = (tame-wake {k = plain} S o (owner_of S.serving.servers o)).goes refl in
-        sent connects-as (send_connect S t old s (Some o)) _ refl refl refl (omega arith) refl refl refl (tt, (tt, (refl, (open-accepts S s o opens, proper-any script t S (Some o) _ (proper-wake script S o (owner_of S.serving.servers o)))))) fits
+        sent connects-as (send_connect S t old s (Some o)) _ refl refl refl (omega arith) refl refl refl (
+          tt,
+          (
+            tt,
+            (
+              refl,
+              (
+                open-accepts S s o opens,
+                proper-any script t S (Some o) _ (proper-wake script S o (owner_of S.serving.servers o)),
+              ),
+            ),
+          ),
+        ) fits
 
     pub connects-over : {k : Kinds} (session : Option ObjNo) → session_made S t old ≡ session
         → FitsAction k script S t (connect_send S t old session)
         → Comes connects-as (Some part.Send) (connect_send S t old session)
     connects-over None e fits = idles (unkept refl e) refl
-    connects-over (Some s) e fits = tests script S t old here rows (is_some (held_by S.synchronization.nano t)) word.Connect part.Send InUse (send_connect S t old s (open_server S s)) (λ no f. connects-to s (open_server S s) refl f) fits
+    connects-over (Some s) e fits = tests script S t old here rows
+        (is_some (held_by S.synchronization.nano t)) word.Connect part.Send InUse (send_connect S t old s (open_server S s))
+        (λ no f. connects-to s (open_server S s) refl f) fits
 
     pub connected : (session : Option ObjNo) → session_made S t old ≡ session → Comes connects-as (Some part.Done) (connect_done S t old x session)
     connected None e = idles (unkept refl e) refl
-    connected (Some s) e = either script S t old here rows (int_eq (reply_of S.synchronization.requests t) (pos 0)) _ _ (answers _ refl refl (tt, (tt, tt))) (answers _ refl refl (tt, (tt, tt)))
+    connected (Some s) e = either script S t old here rows (int_eq (reply_of S.synchronization.requests t) (pos 0)) _ _
+        (answers _ refl refl (tt, (tt, tt))) (answers _ refl refl (tt, (tt, tt)))
 
   -- copies
   pub pieces : {i : Instr} {p : Option Part} (w : Word) (copy : CopyMove) (piece : Piece) → has_step i part.Piece ≡ true

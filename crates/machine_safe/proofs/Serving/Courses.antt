@@ -256,13 +256,18 @@ module _ (script : Script) (S : State) (t : ObjNo) (old : ThreadRow) (here : thr
   returns-to {i} {p} w to has met =
       if_cases (Course script S t old i p) (is_open (object_of S (found_object old)))
       (one_move (Of w part.Return) (Open t (found_object old) to)) (miss t w (found_object old) (is_live old.stage))
-      (λ _. goes to has refl refl (tt, tt) (on-one script S t old here rows i to (with_opened (found_object old) to) refl (λ _. refl) (λ own had. met had))) (λ _. missed w (found_object old) (is_live old.stage))
+      (λ _. goes to has refl refl (tt, tt) (on-one script S t old here rows i to
+      (with_opened (found_object old) to) refl (λ _. refl) (λ own had. met had)))
+      (λ _. missed w (found_object old) (is_live old.stage))
 
   pub return-course : (i : Instr) → Course script S t old i (Some part.Return) (return_of S t old i)
   return-course (instr.Open k name x) = returns-to word.Open part.Do refl (λ had asked. record {
     unset = λ s is. absurd (cc);
     wanted = λ is. absurd (cc);
-    used = λ j o is used. let own : found_object old ≡ o = cc in let same : k ≡ j = cc in subst (λ (z : Kind). IsOfKind S.references.objects z o) same (subst (IsOfKind S.references.objects k) own ((had refl).found k refl));
+    used =
+        λ j o is used. let own : found_object old ≡ o = cc in let same : k ≡ j = cc in
+        subst (λ (z : Kind). IsOfKind S.references.objects z o) same
+        (subst (IsOfKind S.references.objects k) own ((had refl).found k refl));
     found = λ j is. absurd (cc);
     owned = λ o is used. absurd (cc);
     came = λ o is used. absurd (cc);

@@ -70,7 +70,9 @@ at_send _ = false
 
 -- a thread that uses an object at a `send` looked for that
 abbrev pub Looked : Script → List Entry → State → Type 0
-Looked script before S = (u o : ObjNo) (row : ThreadRow) → thread_of S u ≡ Some row → at_send (instruction script row) ≡ true → row.uses ≡ Some o → looked_in before u ≡ Some o
+Looked script before S =
+    (u o : ObjNo) (row : ThreadRow) → thread_of S u ≡ Some row → at_send (instruction script row) ≡ true → row.uses
+    ≡ Some o → looked_in before u ≡ Some o
 
 -- the session that a thread's `send` is over
 pub record IsSendOver (S : State) (t : ObjNo) (at : Option Instr) (s : ObjNo) : Type 0 where
@@ -81,7 +83,10 @@ pub record IsSendOver (S : State) (t : ObjNo) (at : Option Instr) (s : ObjNo) : 
 
 -- why a `send` is refused: its server is closing, or it isn't and all slots are used
 abbrev pub RefusedBy : State → ObjNo → Option ℤ → Type 0
-RefusedBy S s answer = ((open_server S s ≡ None) × (answer ≡ Some (error_code ServerTerminated))) ⊎ ((o : ObjNo) × (open_server S s ≡ Some o) × (is_full S.serving.messages s (slots_of S s) ≡ true) × (answer ≡ Some (error_code ServerBusy)))
+RefusedBy S s answer =
+    ((open_server S s ≡ None) × (answer ≡ Some (error_code ServerTerminated)))
+    ⊎ ((o : ObjNo) × (open_server S s ≡ Some o) × (is_full S.serving.messages s (slots_of S s) ≡ true)
+    × (answer ≡ Some (error_code ServerBusy)))
 
 pub record IsRefusal (S : State) (t : ObjNo) (at : Option Instr) (d : Decision) : Type 0 where
   pub session : ObjNo
@@ -189,7 +194,8 @@ pub record OfEach (S : State) (t : ObjNo) (at : Option Instr) (P : Decision → 
   pub stops : (d : Decision) → IsStopping S t d → P d
 
 -- moves that serve nobody leave servers and messages
-pub calm : {S : State} {t : ObjNo} {at : Option Instr} {P : Decision → Type 0} → OfEach S t at P → (d : Decision) → total serving_bit d.moves ≡ 0 → is_send d.step ≡ false → P d
+pub calm : {S : State} {t : ObjNo} {at : Option Instr} {P : Decision → Type 0} → OfEach S t at P → (d : Decision)
+    → total serving_bit d.moves ≡ 0 → is_send d.step ≡ false → P d
 calm each d quiet unsent = each.keeps d (record {
   changing = changing-none d.moves quiet;
   still = message-none d.moves quiet;

@@ -21,12 +21,16 @@ or-none (Some o) = refl
 
 pub server_told-append : (xs ys : List Effect) (s : ObjNo) → server_told (xs ++ ys) s ≡ or_before (server_told ys s) (server_told xs s)
 server_told-append [] ys s = sym (or-none (server_told ys s))
-server_told-append (Plus (Link x) v ∷ rest) ys s = ap (λ (o : Option ObjNo). or_before o (one_if (x.0 == s.0) v)) (server_told-append rest ys s) ∙ or-three (server_told ys s) (server_told rest s) (one_if (x.0 == s.0) v)
+server_told-append (Plus (Link x) v ∷ rest) ys s =
+    ap (λ (o : Option ObjNo). or_before o (one_if (x.0 == s.0) v)) (server_told-append rest ys s)
+    ∙ or-three (server_told ys s) (server_told rest s) (one_if (x.0 == s.0) v)
 server_told-append (_ ∷ rest) ys s = server_told-append rest ys s
 
 pub owner_told-append : (xs ys : List Effect) (v : ObjNo) → owner_told (xs ++ ys) v ≡ or_before (owner_told ys v) (owner_told xs v)
 owner_told-append [] ys v = sym (or-none (owner_told ys v))
-owner_told-append (Plus (Own t) o ∷ rest) ys v = ap (λ (x : Option ObjNo). or_before x (one_if (o.0 == v.0) t)) (owner_told-append rest ys v) ∙ or-three (owner_told ys v) (owner_told rest v) (one_if (o.0 == v.0) t)
+owner_told-append (Plus (Own t) o ∷ rest) ys v =
+    ap (λ (x : Option ObjNo). or_before x (one_if (o.0 == v.0) t)) (owner_told-append rest ys v)
+    ∙ or-three (owner_told ys v) (owner_told rest v) (one_if (o.0 == v.0) t)
 owner_told-append (_ ∷ rest) ys v = owner_told-append rest ys v
 
 pub ends-append : (xs ys : List Effect) (v : ObjNo) → ends (xs ++ ys) v ≡ ends xs v + ends ys v
@@ -51,5 +55,7 @@ finishes-append (_ ∷ rest) ys m = finishes-append rest ys m
 
 pub used_told-append : (xs ys : List Effect) (t : ObjNo) → used_told (xs ++ ys) t ≡ or_before (used_told ys t) (used_told xs t)
 used_told-append [] ys t = sym (or-none (used_told ys t))
-used_told-append (Plus (Temp u) o ∷ rest) ys t = ap (λ (x : Option ObjNo). or_before x (one_if (u.0 == t.0) o)) (used_told-append rest ys t) ∙ or-three (used_told ys t) (used_told rest t) (one_if (u.0 == t.0) o)
+used_told-append (Plus (Temp u) o ∷ rest) ys t =
+    ap (λ (x : Option ObjNo). or_before x (one_if (u.0 == t.0) o)) (used_told-append rest ys t)
+    ∙ or-three (used_told ys t) (used_told rest t) (one_if (u.0 == t.0) o)
 used_told-append (_ ∷ rest) ys t = used_told-append rest ys t

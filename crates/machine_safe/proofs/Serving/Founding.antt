@@ -47,10 +47,14 @@ module _ (script : Script) (before : List Entry) (S : State) (place : ℕ) (t : 
   made = served-made script (reading before) S book.served
 
   -- a server is made
-  pub turn-makes : {k : Kinds} (d : Decision) → IsRegular k script S t d → IsMaking S t d → Doing script S t d.moves → ((u : ObjNo) → IsLiveThread S.references.threads u → dooms (effects_of before) u ≡ 0) → IsTurn script before (entry_for place t S d) (perform t d.moves S)
+  pub turn-makes : {k : Kinds} (d : Decision) → IsRegular k script S t d → IsMaking S t d → Doing script S t d.moves
+      → ((u : ObjNo) → IsLiveThread S.references.threads u → dooms (effects_of before) u ≡ 0)
+      → IsTurn script before (entry_for place t S d) (perform t d.moves S)
   turn-makes d regular is does undoomed = record {
     book = record {
-      served = served-same script (further (further (reading before) d.step fs (λ k. 0)) d.step gs (steps_of t rest)) (reading (before ++ e ∷ [])) (perform t d.moves S) same whole;
+      served =
+          served-same script (further (further (reading before) d.step fs (λ k. 0)) d.step gs (steps_of t rest))
+          (reading (before ++ e ∷ [])) (perform t d.moves S) same whole;
       letters = letters-quiet script before S (perform t d.moves S) e book.letters (λ p among. unlinked p.session) q (λ p among. unended p.server);
       slotted = slotted-keeps script before e S (perform t d.moves S) book.slotted unlinked slots q.pool;
       fresh = fresh-made before e book.fresh untold;
@@ -86,18 +90,29 @@ module _ (script : Script) (before : List Entry) (S : State) (place : ℕ) (t : 
       start = goes.each.0
 
       middle : IsGoing script mid t rest
-      middle = going-then script (moved t (Servers (Start (next_object S) t)) S) t (Make kind.Server is.name (Own t)) rest (going-then script S t (Servers (Start (next_object S) t)) (Make kind.Server is.name (Own t) ∷ rest) goes)
+      middle =
+          going-then script (moved t (Servers (Start (next_object S) t)) S) t (Make kind.Server is.name (Own t)) rest
+          (going-then script S t (Servers (Start (next_object S) t)) (Make kind.Server is.name (Own t) ∷ rest) goes)
 
       first : Served script (further (reading before) d.step fs (λ k. 0)) mid
-      first = served-made_server script (reading before) S t d.step book.served rows is.name start (let a = goes.sane.inside in let b = rows.serving.servers.owned_sized in omega arith) is.makes (undoomed t start.owner)
+      first =
+          served-made_server script (reading before) S t d.step book.served rows is.name start
+          (let a = goes.sane.inside in let b = rows.serving.servers.owned_sized in omega arith) is.makes
+          (undoomed t start.owner)
 
       keeps : Keeps mid (perform t rest mid) t rest gs
-      keeps = keeps-going script mid t rest middle (served-made script (further (reading before) d.step fs (λ k. 0)) mid first) (changing-none rest (let a = is.quiet in omega arith))
+      keeps =
+          keeps-going script mid t rest middle (served-made script (further (reading before) d.step fs (λ k. 0)) mid first)
+          (changing-none rest (let a = is.quiet in omega arith))
 
       whole : Served script (further (further (reading before) d.step fs (λ k. 0)) d.step gs (steps_of t rest)) (perform t d.moves S)
-      whole = subst (λ (l : List Move). Served script (further (further (reading before) d.step fs (λ k. 0)) d.step gs (steps_of t rest)) (perform t l S)) (sym is.moves)
+      whole =
+          subst (λ (l : List Move). Served script
+          (further (further (reading before) d.step fs (λ k. 0)) d.step gs (steps_of t rest)) (perform t l S))
+          (sym is.moves)
           (served-keeps script (further (reading before) d.step fs (λ k. 0)) mid (perform t rest mid) t rest d.step gs first keeps
-          (λ v. let a = regular.dooms v in let b = ap (total (closed_bit v)) is.moves in let c = ap (total (doomed_bit v)) is.moves in let f = doom-told t rest mid v in omega arith)
+          (λ v. let a = regular.dooms v in let b = ap (total (closed_bit v)) is.moves in
+          let c = ap (total (doomed_bit v)) is.moves in let f = doom-told t rest mid v in omega arith)
           (λ v. doom-among t rest mid v)
           (λ v row there. let a = lost-each script mid t rest v middle.each in let b = lost-none v rest (let q = is.quiet in omega arith) in omega arith)
           (λ makes. let a = regular.making makes in let b = ap (total mutex_bit) is.moves in omega arith)
@@ -108,13 +123,18 @@ module _ (script : Script) (before : List Entry) (S : State) (place : ℕ) (t : 
 
       same : IsSame (further (further (reading before) d.step fs (λ k. 0)) d.step gs (steps_of t rest)) (reading (before ++ e ∷ []))
       same = same-then _ (further (reading before) d.step e.effects (λ k. 0 + steps_of t rest k)) _
-          (subst (λ (l : List Effect). IsSame (further (further (reading before) d.step fs (λ k. 0)) d.step gs (steps_of t rest)) (further (reading before) d.step l (λ k. 0 + steps_of t rest k))) (sym told) (same-both (reading before) d.step fs gs (λ k. 0) (steps_of t rest)))
-          (same-entry before e (λ k. 0 + steps_of t rest k) (λ k. let a = counts t rest d k (let a = regular.answers in let b = ap (total advance_bit) is.moves in omega arith) in omega arith))
+          (subst (λ (l : List Effect). IsSame (further (further (reading before) d.step fs (λ k. 0)) d.step gs
+          (steps_of t rest)) (further (reading before) d.step l (λ k. 0 + steps_of t rest k))) (sym told)
+          (same-both (reading before) d.step fs gs (λ k. 0) (steps_of t rest)))
+          (same-entry before e (λ k. 0 + steps_of t rest k)
+          (λ k. let a = counts t rest d k (let a = regular.answers in let b = ap (total advance_bit) is.moves in
+          omega arith) in omega arith))
 
       owner-told : (v : ObjNo) → owner_told e.effects v ≡ one_if (o.0 == v.0) t
       owner-told v =
           ap (λ (l : List Effect). owner_told l v) told ∙ (owner_told-append fs gs v
-          ∙ ap (λ (x : Option ObjNo). or_before x (owner_told fs v)) (keeps.unowned (let a = regular.making is.makes in let b = ap (total mutex_bit) is.moves in omega arith) v))
+          ∙ ap (λ (x : Option ObjNo). or_before x (owner_told fs v))
+          (keeps.unowned (let a = regular.making is.makes in let b = ap (total mutex_bit) is.moves in omega arith) v))
 
       owner-new : (v u : ObjNo) (b : Bool) → (o.0 == v.0) ≡ b → one_if b t ≡ Some u → (o.0 ≡ v.0) × (t ≡ u)
       owner-new v u true same is = (eqb-true o.0 v.0 same, cc)
@@ -127,7 +147,8 @@ module _ (script : Script) (before : List Entry) (S : State) (place : ℕ) (t : 
           let new = owner-new v u (o.0 == v.0) refl (sym (owner-told v) ∙ (sym first_owner ∙ owns)) in
           let at = new.0 in (
             book.served.unmade v (omega arith),
-            zero_or (ends (effects_of before) v) (λ some. let row = closing-row (server_at S.serving.servers v) (book.served.ended v some) in let below = made v row.0 row.1 in absurd (omega arith)),
+            zero_or (ends (effects_of before) v) (λ some. let row = closing-row (server_at S.serving.servers v)
+                (book.served.ended v some) in let below = made v row.0 row.1 in absurd (omega arith)),
             subst (λ (x : ObjNo). dooms (effects_of before) x ≡ 0) new.1 (undoomed t start.owner),
           )
 
@@ -138,9 +159,18 @@ module _ (script : Script) (before : List Entry) (S : State) (place : ℕ) (t : 
       unended v = ap (λ (l : List Effect). ends l v) told ∙ keeps.unended v
 
       q : IsQuiet S (perform t d.moves S) e.effects
-      q = quiet-doing script S t d.moves does (let a = ap (total message_bit) is.moves in let b = message-none rest (let c = is.quiet in omega arith) in omega arith)
+      q =
+          quiet-doing script S t d.moves does (let a = ap (total message_bit) is.moves in
+          let b = message-none rest (let c = is.quiet in omega arith) in omega arith)
 
       slots : (s : ObjNo) (row : SessionRow) → session_at (perform t d.moves S).serving.servers s ≡ Some row → WasSession S.serving.servers s row
       slots s row is_row =
           let later = keeps.slots s row (ap (λ (l : List Move). session_at (perform t l S).serving.servers s) (sym is.moves) ∙ is_row) in
-          record { old = later.old; was = set_item (λ (x : Option SessionRow). x ≡ Some later.old → get_or S.serving.servers.sessions s.0 None ≡ Some later.old) S.serving.servers.sessions (next_object S).0 s.0 None None (λ at none. absurd (cc)) (λ same_row. same_row) later.was; slots = later.slots }
+          record {
+            old = later.old;
+            was =
+                set_item (λ (x : Option SessionRow). x ≡ Some later.old → get_or S.serving.servers.sessions s.0 None
+                ≡ Some later.old) S.serving.servers.sessions (next_object S).0 s.0 None None (λ at none. absurd (cc))
+                (λ same_row. same_row) later.was;
+            slots = later.slots;
+          }

@@ -54,7 +54,9 @@ module _ (script : Script) (S : State) (t : ObjNo) (at : Option Instr) (P : Deci
   deed-give : (row : ThreadRow) (what : Holding) → IsGiven S t what → IsRegular (kind_given what) script S t (give_up S t row what) → P (give_up S t row what)
   deed-give row (OfMessage m) given regular = deed-finish m (message_of S.serving.messages m) given refl
   deed-give row (OfServer o) given regular = each.stops _ (record { server = o; moves = refl; makes = refl; unsent = refl })
-  deed-give row (Handle h o) given regular = deed-handle S t at P h o false (give_up S t row (Handle h o)) given.0 refl refl refl refl each (sym (append-nil (close_moves S t h o)))
+  deed-give row (Handle h o) given regular =
+      deed-handle S t at P h o false (give_up S t row (Handle h o)) given.0 refl refl refl refl each
+      (sym (append-nil (close_moves S t h o)))
   deed-give row (OfLink s o) given regular = each.keeps _ (record {
     changing = refl;
     still = refl;
@@ -65,10 +67,13 @@ module _ (script : Script) (S : State) (t : ObjNo) (at : Option Instr) (P : Deci
   deed-give row what given regular = calm each _ (regular.calm refl) (regular.sends refl)
 
   -- what the thread does
-  pub deed-of : IsShaped script → AreRows script S → KeepHandles script S → ((row : ThreadRow) → thread_of S t ≡ Some row → at ≡ instruction script row) → P (decision_of script S t)
+  pub deed-of : IsShaped script → AreRows script S → KeepHandles script S
+      → ((row : ThreadRow) → thread_of S t ≡ Some row → at ≡ instruction script row) → P (decision_of script S t)
   deed-of shaped rows kept here = each-action script S t P (record {
     plainly = λ d why fits. calm each d (fits.regular.calm refl) (fits.regular.sends refl);
-    steps = λ row i is live going e fits. deed-step script S t at P row i row.part fits.regular is live going (λ keeps. kept t row is live (ap (λ (x : Option Instr). keeps_handle x row.part) e ∙ keeps)) (here row is ∙ e) each;
+    steps =
+        λ row i is live going e fits. deed-step script S t at P row i row.part fits.regular is live going
+        (λ keeps. kept t row is live (ap (λ (x : Option Instr). keeps_handle x row.part) e ∙ keeps)) (here row is ∙ e) each;
     returns = λ row i is back e fits. calm each _ (fits.regular.calm refl) (fits.regular.sends refl);
     gives = λ row what given fits. deed-give row what given fits.regular;
     pays = λ what rest owes. let regular = regular-pay {script = script} {S = S} {t = t} what in calm each _ (regular.calm refl) (regular.sends refl);

@@ -60,12 +60,18 @@ module _ (script : Script) (before : List Entry) (S : State) (place : ℕ) (t : 
   posted p among = contains_map post_of S.serving.messages.outstanding p among
 
   -- a session joins a server
-  pub turn-joins : {k : Kinds} (d : Decision) → IsRegular k script S t d → IsJoining S t (instruction_in script before t) d → Doing script S t d.moves → IsTurn script before (entry_for place t S d) (perform t d.moves S)
+  pub turn-joins : {k : Kinds} (d : Decision) → IsRegular k script S t d
+      → IsJoining S t (instruction_in script before t) d → Doing script S t d.moves
+      → IsTurn script before (entry_for place t S d) (perform t d.moves S)
   turn-joins d regular is does = record {
     book = record {
       served = served-same script _ (reading (before ++ e ∷ [])) (perform t d.moves S) same whole;
       letters = letters-quiet script before S (perform t d.moves S) e book.letters unlinked q (λ p among. unended p.server);
-      slotted = record { sessions = slots; pool = q.pool ∙ book.slotted.pool; servers = λ s. links-told before e s (book.slotted.servers s) (link-made e s is.joins) };
+      slotted = record {
+        sessions = slots;
+        pool = q.pool ∙ book.slotted.pool;
+        servers = λ s. links-told before e s (book.slotted.servers s) (link-made e s is.joins);
+      };
       fresh = fresh-on before e book.fresh (λ makes. let none = is.makes in absurd (cc));
     };
     lawful = unserving script before e q.accepts q.finishes unended (λ sends. let unsent = is.unsent in absurd (cc));
@@ -121,7 +127,9 @@ module _ (script : Script) (before : List Entry) (S : State) (place : ℕ) (t : 
       r2 = further r1 d.step hs (λ k. 0)
 
       served2 : Served script r2 mid
-      served2 = served-joined script r1 T t d.step served1 later.sane.rows (next_object S) is.server is.slots later.each.0 (no-server S (next_object S) made (omega arith)) is.makes
+      served2 =
+          served-joined script r1 T t d.step served1 later.sane.rows (next_object S) is.server is.slots later.each.0
+          (no-server S (next_object S) made (omega arith)) is.makes
 
       keeps : Keeps mid (perform t is.back mid) t is.back gs
       keeps = keeps-going script mid t is.back last (served-made script r2 mid served2) (changing-none is.back is.quiet)
@@ -132,7 +140,8 @@ module _ (script : Script) (before : List Entry) (S : State) (place : ℕ) (t : 
       whole : Served script r3 (perform t d.moves S)
       whole = subst (λ (l : List Move). Served script r3 (perform t l S)) (sym is.moves)
           (served-keeps script r2 mid (perform t is.back mid) t is.back d.step gs served2 keeps
-          (λ v. let a = regular.dooms v in let b = ap (total (closed_bit v)) is.moves in let c = ap (total (doomed_bit v)) is.moves in let f = doom-told t is.back mid v in omega arith)
+          (λ v. let a = regular.dooms v in let b = ap (total (closed_bit v)) is.moves in
+          let c = ap (total (doomed_bit v)) is.moves in let f = doom-told t is.back mid v in omega arith)
           (λ v. doom-among t is.back mid v)
           (λ v row there. let a = lost-each script mid t is.back v last.each in let b = lost-none v is.back is.quiet in omega arith)
           (λ making. absurd (cc)) (λ v some. let none = detach-none v is.back is.quiet in absurd (omega arith)))
@@ -141,54 +150,89 @@ module _ (script : Script) (before : List Entry) (S : State) (place : ℕ) (t : 
       told_all = ap (λ (l : List Move). tell t l S) is.moves
 
       same : IsSame r3 (reading (before ++ e ∷ []))
-      same = same-then r3 (further r1 d.step (hs ++ gs) (λ k. 0 + steps_of t is.back k)) (reading (before ++ e ∷ [])) (same-both r1 d.step hs gs (λ k. 0) (steps_of t is.back))
-          (same-then (further r1 d.step (hs ++ gs) (λ k. 0 + steps_of t is.back k)) (further (reading before) d.step e.effects (λ k. steps_of t (one ∷ []) k + (0 + steps_of t is.back k))) (reading (before ++ e ∷ []))
-          (subst (λ (l : List Effect). IsSame (further r1 d.step (hs ++ gs) (λ k. 0 + steps_of t is.back k)) (further (reading before) d.step l (λ k. steps_of t (one ∷ []) k + (0 + steps_of t is.back k)))) (sym told_all) (same-both (reading before) d.step fs (hs ++ gs) (steps_of t (one ∷ [])) (λ k. 0 + steps_of t is.back k)))
-          (same-entry before e (λ k. steps_of t (one ∷ []) k + (0 + steps_of t is.back k)) (λ k. let a = counts t is.back d k (let b = regular.answers in let c = ap (total advance_bit) is.moves in omega arith) in let none = if_zero (t.0 == k) (total advance_bit (one ∷ [])) refl in omega arith)))
+      same =
+          same-then r3 (further r1 d.step (hs ++ gs) (λ k. 0 + steps_of t is.back k)) (reading (before ++ e ∷ []))
+          (same-both r1 d.step hs gs (λ k. 0) (steps_of t is.back))
+          (same-then (further r1 d.step (hs ++ gs) (λ k. 0 + steps_of t is.back k))
+          (further (reading before) d.step e.effects (λ k. steps_of t (one ∷ []) k + (0 + steps_of t is.back k)))
+          (reading (before ++ e ∷ []))
+          (subst (λ (l : List Effect). IsSame (further r1 d.step (hs ++ gs) (λ k. 0 + steps_of t is.back k))
+          (further (reading before) d.step l (λ k. steps_of t (one ∷ []) k + (0 + steps_of t is.back k))))
+          (sym told_all) (same-both (reading before) d.step fs (hs ++ gs) (steps_of t (one ∷ []))
+          (λ k. 0 + steps_of t is.back k)))
+          (same-entry before e (λ k. steps_of t (one ∷ []) k + (0 + steps_of t is.back k))
+          (λ k. let a = counts t is.back d k (let b = regular.answers in let c = ap (total advance_bit) is.moves in
+          omega arith) in let none = if_zero (t.0 == k) (total advance_bit (one ∷ [])) refl in omega arith)))
 
       apart : (p : Post) → Contains (posts S) p → ((next_object S).0 ≡ p.session.0 → ⊥)
       apart p among at =
           let was = posted p among in
-          let session : is_some (session_at S.serving.servers p.session) ≡ true = ap (λ (x : Post). is_some (session_at S.serving.servers x.session)) (sym was.2) ∙ rows.serving.messages.sessions was.0 was.1 in
-          let none : session_at S.serving.servers p.session ≡ None = ap (λ (n : ℕ). get_or S.serving.servers.sessions n None) (sym at) ∙ (next_fresh script S rows).session in
+          let session : is_some (session_at S.serving.servers p.session) ≡ true =
+          ap (λ (x : Post). is_some (session_at S.serving.servers x.session)) (sym was.2)
+          ∙ rows.serving.messages.sessions was.0 was.1 in
+          let none : session_at S.serving.servers p.session
+          ≡ None = ap (λ (n : ℕ). get_or S.serving.servers.sessions n None) (sym at)
+          ∙ (next_fresh script S rows).session in
           let no_session = ap is_some none in absurd (cc)
 
       unlinked : (p : Post) → Contains (posts S) p → server_told e.effects p.session ≡ None
       unlinked p among =
-          ap (λ (l : List Effect). server_told l p.session) told_all ∙ (server_told-append fs (hs ++ gs) p.session ∙ (ap (λ (x : Option ObjNo). or_before x (server_told fs p.session)) (server_told-append hs gs p.session
-          ∙ (ap (λ (x : Option ObjNo). or_before x (server_told hs p.session)) (keeps.unlinked p.session) ∙ ap (λ (b : Bool). one_if b is.server) (eqb_apart (next_object S).0 p.session.0 (apart p among)))) ∙ makes.unlinked p.session))
+          ap (λ (l : List Effect). server_told l p.session) told_all
+          ∙ (server_told-append fs (hs ++ gs) p.session
+          ∙ (ap (λ (x : Option ObjNo). or_before x (server_told fs p.session)) (server_told-append hs gs p.session
+          ∙ (ap (λ (x : Option ObjNo). or_before x (server_told hs p.session)) (keeps.unlinked p.session)
+          ∙ ap (λ (b : Bool). one_if b is.server) (eqb_apart (next_object S).0 p.session.0 (apart p among))))
+          ∙ makes.unlinked p.session))
 
       unended : (v : ObjNo) → ends e.effects v ≡ 0
-      unended v = let a = ap (λ (l : List Effect). ends l v) told_all in let b = ends-append fs (hs ++ gs) v in let c = makes.unended v in let f = keeps.unended v in omega arith
+      unended v = let a = ap (λ (l : List Effect). ends l v) told_all in let b = ends-append fs (hs ++ gs) v in
+          let c = makes.unended v in let f = keeps.unended v in omega arith
 
       q : IsQuiet S (perform t d.moves S) e.effects
       q = quiet-doing script S t d.moves does (let a = ap (total message_bit) is.moves in let b = message-none is.back is.quiet in omega arith)
 
       session_room : (next_object S).0 < length T.serving.servers.sessions
-      session_room = let a = later.each.0.made in let b = later.sane.rows.references.sized.objects_few in let c = later.sane.rows.serving.servers.sessions_sized in omega arith
+      session_room =
+          let a = later.each.0.made in
+          let b = later.sane.rows.references.sized.objects_few in
+          let c = later.sane.rows.serving.servers.sessions_sized in
+          omega arith
 
       link-told : (s : ObjNo) → (next_object S).0 ≡ s.0 → server_told e.effects s ≡ Some is.server
       link-told s at =
-          ap (λ (l : List Effect). server_told l s) told_all ∙ (server_told-append fs (hs ++ gs) s ∙ ap (λ (x : Option ObjNo). or_before x (server_told fs s)) (server_told-append hs gs s
-          ∙ (ap (λ (x : Option ObjNo). or_before x (server_told hs s)) (keeps.unlinked s) ∙ ap (λ (b : Bool). one_if b is.server) (eq-eqb (next_object S).0 s.0 at))))
+          ap (λ (l : List Effect). server_told l s) told_all
+          ∙ (server_told-append fs (hs ++ gs) s
+          ∙ ap (λ (x : Option ObjNo). or_before x (server_told fs s)) (server_told-append hs gs s
+          ∙ (ap (λ (x : Option ObjNo). or_before x (server_told hs s)) (keeps.unlinked s)
+          ∙ ap (λ (b : Bool). one_if b is.server) (eq-eqb (next_object S).0 s.0 at))))
 
       link-untold : (s : ObjNo) → ((next_object S).0 ≡ s.0 → ⊥) → server_told e.effects s ≡ None
       link-untold s other =
-          ap (λ (l : List Effect). server_told l s) told_all ∙ (server_told-append fs (hs ++ gs) s ∙ (ap (λ (x : Option ObjNo). or_before x (server_told fs s)) (server_told-append hs gs s
-          ∙ (ap (λ (x : Option ObjNo). or_before x (server_told hs s)) (keeps.unlinked s) ∙ ap (λ (b : Bool). one_if b is.server) (eqb_apart (next_object S).0 s.0 other))) ∙ makes.unlinked s))
+          ap (λ (l : List Effect). server_told l s) told_all
+          ∙ (server_told-append fs (hs ++ gs) s
+          ∙ (ap (λ (x : Option ObjNo). or_before x (server_told fs s)) (server_told-append hs gs s
+          ∙ (ap (λ (x : Option ObjNo). or_before x (server_told hs s)) (keeps.unlinked s)
+          ∙ ap (λ (b : Bool). one_if b is.server) (eqb_apart (next_object S).0 s.0 other))) ∙ makes.unlinked s))
 
       -- the session has the slots of the instruction, and the others theirs
-      slots : (s : ObjNo) (row : SessionRow) → session_at (perform t d.moves S).serving.servers s ≡ Some row → slots_in script (before ++ e ∷ []) s ≡ Some row.slots
+      slots : (s : ObjNo) (row : SessionRow) → session_at (perform t d.moves S).serving.servers s ≡ Some row
+          → slots_in script (before ++ e ∷ []) s ≡ Some row.slots
       slots s row is_row =
           let after = keeps.slots s row (ap (λ (l : List Move). session_at (perform t l S).serving.servers s) (sym is.moves) ∙ is_row) in
           elim (cases_eq (next_object S).0 s.0) as (λ _. slots_in script (before ++ e ∷ []) s ≡ Some row.slots) [
             | inl at ↦
                 let inside : (next_object S).0 < length T.serving.servers.sessions = session_room in
-                let new : session_at mid.serving.servers s ≡ Some (new_session is.server is.slots t) = ap (λ (n : ℕ). get_or mid.serving.servers.sessions n None) (sym at) ∙ get_or-set_same T.serving.servers.sessions (next_object S).0 (Some (new_session is.server is.slots t)) None inside in
+                let new : session_at mid.serving.servers s ≡ Some (new_session is.server is.slots t) =
+                ap (λ (n : ℕ). get_or mid.serving.servers.sessions n None) (sym at)
+                ∙ get_or-set_same T.serving.servers.sessions (next_object S).0
+                (Some (new_session is.server is.slots t)) None inside in
                 let both : Some after.old ≡ Some (new_session is.server is.slots t) = sym after.was ∙ new in
                 let own : after.old ≡ new_session is.server is.slots t = cc in
-                slots-joined script before e s is.server is.slots is.joins (link-told s at) is.connects ∙ ap Some (sym (ap (λ (z : SessionRow). z.slots) own) ∙ after.slots)
+                slots-joined script before e s is.server is.slots is.joins (link-told s at) is.connects
+                ∙ ap Some (sym (ap (λ (z : SessionRow). z.slots) own) ∙ after.slots)
             | inr other ↦
-                let first = makes.slots s after.old (sym (get_or-set_other T.serving.servers.sessions (next_object S).0 s.0 (Some (new_session is.server is.slots t)) None (λ at. other (sym at))) ∙ after.was) in
+                let first = makes.slots s after.old
+                (sym (get_or-set_other T.serving.servers.sessions (next_object S).0 s.0
+                (Some (new_session is.server is.slots t)) None (λ at. other (sym at))) ∙ after.was) in
                 slots-kept script before e s (link-untold s other) ∙ (book.slotted.sessions s first.old first.was ∙ ap Some (first.slots ∙ after.slots))
           ]

@@ -183,7 +183,8 @@ pub there-row : (x : Option ServerRow) → is_some x ≡ true → (row : ServerR
 there-row None is = absurd (cc)
 there-row (Some row) is = (row, refl)
 
-pub keeps-closing : (S T : State) (t : ObjNo) (ms : List Move) (effects : List Effect) (o : ObjNo) → Keeps S T t ms effects → is_closing S.serving.servers o ≡ true → is_closing T.serving.servers o ≡ true
+pub keeps-closing : (S T : State) (t : ObjNo) (ms : List Move) (effects : List Effect) (o : ObjNo)
+    → Keeps S T t ms effects → is_closing S.serving.servers o ≡ true → is_closing T.serving.servers o ≡ true
 keeps-closing S T t ms effects o h is =
     let first = closing-row (server_at S.serving.servers o) is in
     let now = there-row (server_at T.serving.servers o) (h.there o (ap is_some first.1)) in
@@ -192,7 +193,8 @@ keeps-closing S T t ms effects o h is =
     let own : first.0 ≡ was.old = cc in
     ap closes now.1 ∙ was.still (sym (ap (λ (z : ServerRow). z.is_closing) own) ∙ first.2)
 
-pub keeps-then : (S T U : State) (t : ObjNo) (m : Move) (ms : List Move) (es fs : List Effect) → Keeps S T t (m ∷ []) es → Keeps T U t ms fs → Keeps S U t (m ∷ ms) (es ++ fs)
+pub keeps-then : (S T U : State) (t : ObjNo) (m : Move) (ms : List Move) (es fs : List Effect) → Keeps S T t (m ∷ []) es
+    → Keeps T U t ms fs → Keeps S U t (m ∷ ms) (es ++ fs)
 keeps-then S T U t m ms es fs h g = record {
   servers = λ o row is.
       let two = g.servers o row is in
@@ -213,7 +215,9 @@ keeps-then S T U t m ms es fs h g = record {
   ];
   objects = let a = h.objects in let b = g.objects in omega arith;
   alive = λ o made is. h.alive o made (g.alive o (let a = h.objects in omega arith) is);
-  slots = λ s row is. let two = g.slots s row is in let one = h.slots s two.old two.was in record { old = one.old; was = one.was; slots = one.slots ∙ two.slots };
+  slots =
+      λ s row is. let two = g.slots s row is in let one = h.slots s two.old two.was in
+      record { old = one.old; was = one.was; slots = one.slots ∙ two.slots };
   linked = λ s v made is. elim (h.linked s v made is) as (λ _. StillLinked U (m ∷ ms) s v) [
     | inl still ↦ elim (g.linked s v (let a = h.objects in omega arith) still) as (λ _. StillLinked U (m ∷ ms) s v) [
       | inl linked ↦ inl linked
@@ -230,13 +234,20 @@ keeps-then S T U t m ms es fs h g = record {
   threads = λ k row is.
       let two = g.threads k row is in
       let one = h.threads k two.old two.was in
-      record { old = one.old; was = one.was; role = one.role ∙ two.role; place = let a = one.place in let b = two.place in let c = steps-then t m ms k in omega arith };
+      record {
+        old = one.old;
+        was = one.was;
+        role = one.role ∙ two.role;
+        place = let a = one.place in let b = two.place in let c = steps-then t m ms k in omega arith;
+      };
   unlinked = λ s. server_told-append es fs s ∙ nothing-told (server_told fs s) (server_told es s) (g.unlinked s) (h.unlinked s);
   unended = λ v. let a = ends-append es fs v in let b = h.unended v in let c = g.unended v in omega arith;
   lost = λ v past. let a = handles_lost-append es fs v in let more = g.objects in let b = h.lost v (omega arith) in let c = g.lost v past in omega arith;
   unowned = λ none v. owner_told-append es fs v ∙ nothing-told (owner_told fs v) (owner_told es v) (g.unowned (omega arith) v) (h.unowned (omega arith) v);
 }
   where
-    by : (o : ObjNo) (row : ServerRow) (two : WasServer T.serving.servers ms o row) (one : WasServer S.serving.servers (m ∷ []) o two.old) → row.is_closing ≡ true → one.old.is_closing ≡ false → (b : Bool) → two.old.is_closing ≡ b → 0 < total (closed_bit one.old.owner) (m ∷ ms)
+    by : (o : ObjNo) (row : ServerRow) (two : WasServer T.serving.servers ms o row)
+        (one : WasServer S.serving.servers (m ∷ []) o two.old) → row.is_closing ≡ true → one.old.is_closing ≡ false
+        → (b : Bool) → two.old.is_closing ≡ b → 0 < total (closed_bit one.old.owner) (m ∷ ms)
     by o row two one e not true was = let a = one.began was not in omega arith
     by o row two one e not false was = let a = subst (λ (u : ObjNo). 0 < total (closed_bit u) ms) (sym one.owner) (two.began e was) in omega arith

@@ -62,15 +62,23 @@ using-same : (threads : List (Option ThreadRow)) (u o : ObjNo) (row : ThreadRow)
 using-same threads u o row is uses = record { old = row; was = is; uses = uses }
 
 -- a row that changes, but for what it uses, and one that uses nothing then
-using-with : (threads : List (Option ThreadRow)) (v : ObjNo) (f : ThreadRow → ThreadRow) (u o : ObjNo) (row : ThreadRow) → ((r : ThreadRow) → (f r).uses ≡ r.uses) → get_or (with_row threads v f) u.0 None ≡ Some row → row.uses ≡ Some o → WasUsing threads u o
+using-with : (threads : List (Option ThreadRow)) (v : ObjNo) (f : ThreadRow → ThreadRow) (u o : ObjNo) (row : ThreadRow)
+    → ((r : ThreadRow) → (f r).uses ≡ r.uses) → get_or (with_row threads v f) u.0 None ≡ Some row → row.uses ≡ Some o
+    → WasUsing threads u o
 using-with threads v f u o row keeps is uses = elim (cases_eq v.0 u.0) as (λ _. WasUsing threads u o) [
   | inl at ↦
       let was = map_some f (get_or threads v.0 None) row (sym (row-here threads v f u.0 at) ∙ is) in
-      record { old = was.0; was = ap (λ (n : ℕ). get_or threads n None) (sym at) ∙ was.1; uses = sym (keeps was.0) ∙ (ap (λ (z : ThreadRow). z.uses) was.2 ∙ uses) }
+      record {
+        old = was.0;
+        was = ap (λ (n : ℕ). get_or threads n None) (sym at) ∙ was.1;
+        uses = sym (keeps was.0) ∙ (ap (λ (z : ThreadRow). z.uses) was.2 ∙ uses);
+      }
   | inr apart ↦ record { old = row; was = sym (row-other threads v f u.0 apart) ∙ is; uses = uses }
 ]
 
-using-less : (threads : List (Option ThreadRow)) (v : ObjNo) (f : ThreadRow → ThreadRow) (u o : ObjNo) (row : ThreadRow) → ((r : ThreadRow) → (f r).uses ≡ None) → get_or (with_row threads v f) u.0 None ≡ Some row → row.uses ≡ Some o → WasUsing threads u o
+using-less : (threads : List (Option ThreadRow)) (v : ObjNo) (f : ThreadRow → ThreadRow) (u o : ObjNo) (row : ThreadRow)
+    → ((r : ThreadRow) → (f r).uses ≡ None) → get_or (with_row threads v f) u.0 None ≡ Some row → row.uses ≡ Some o
+    → WasUsing threads u o
 using-less threads v f u o row none is uses = elim (cases_eq v.0 u.0) as (λ _. WasUsing threads u o) [
   | inl at ↦
       let was = map_some f (get_or threads v.0 None) row (sym (row-here threads v f u.0 at) ∙ is) in
@@ -79,28 +87,41 @@ using-less threads v f u o row none is uses = elim (cases_eq v.0 u.0) as (λ _. 
 ]
 
 -- one that comes to use this object
-using-begun : (threads : List (Option ThreadRow)) (v x : ObjNo) (f : ThreadRow → ThreadRow) (u o : ObjNo) (row : ThreadRow) → ((r : ThreadRow) → (f r).uses ≡ Some x) → get_or (with_row threads v f) u.0 None ≡ Some row → row.uses ≡ Some o → UsesTold threads (effect.Plus (Temp v) x ∷ []) u o
+using-begun : (threads : List (Option ThreadRow)) (v x : ObjNo) (f : ThreadRow → ThreadRow) (u o : ObjNo)
+    (row : ThreadRow)
+    → ((r : ThreadRow) → (f r).uses ≡ Some x) → get_or (with_row threads v f) u.0 None ≡ Some row → row.uses ≡ Some o
+    → UsesTold threads (effect.Plus (Temp v) x ∷ []) u o
 using-begun threads v x f u o row begins is uses = elim (cases_eq v.0 u.0) as (λ _. UsesTold threads (effect.Plus (Temp v) x ∷ []) u o) [
   | inl at ↦
       let was = map_some f (get_or threads v.0 None) row (sym (row-here threads v f u.0 at) ∙ is) in
       let new : Some x ≡ Some o = sym (begins was.0) ∙ (ap (λ (z : ThreadRow). z.uses) was.2 ∙ uses) in
       inl (ap (λ (b : Bool). one_if b x) (eq-eqb v.0 u.0 at) ∙ new)
-  | inr apart ↦ inr (ap (λ (b : Bool). one_if b x) (eqb_apart v.0 u.0 apart), record { old = row; was = sym (row-other threads v f u.0 apart) ∙ is; uses = uses })
+  | inr apart ↦
+      inr (
+        ap (λ (b : Bool). one_if b x) (eqb_apart v.0 u.0 apart),
+        record { old = row; was = sym (row-other threads v f u.0 apart) ∙ is; uses = uses },
+      )
 ]
 
-using-gained : (h : Holder) (x : ObjNo) (threads : List (Option ThreadRow)) (u o : ObjNo) (row : ThreadRow) → get_or (threads_gain h x threads) u.0 None ≡ Some row → row.uses ≡ Some o → UsesTold threads (effect.Plus h x ∷ []) u o
+using-gained : (h : Holder) (x : ObjNo) (threads : List (Option ThreadRow)) (u o : ObjNo) (row : ThreadRow)
+    → get_or (threads_gain h x threads) u.0 None ≡ Some row → row.uses ≡ Some o
+    → UsesTold threads (effect.Plus h x ∷ []) u o
 using-gained (Temp v) x threads u o row is uses = using-begun threads v x (with_use (Some x)) u o row (λ r. refl) is uses
 using-gained _ x threads u o row is uses = inr (refl, using-same threads u o row is uses)
 
-using-lost : (h : Holder) (threads : List (Option ThreadRow)) (u o : ObjNo) (row : ThreadRow) → get_or (threads_lose h threads) u.0 None ≡ Some row → row.uses ≡ Some o → WasUsing threads u o
+using-lost : (h : Holder) (threads : List (Option ThreadRow)) (u o : ObjNo) (row : ThreadRow)
+    → get_or (threads_lose h threads) u.0 None ≡ Some row → row.uses ≡ Some o → WasUsing threads u o
 using-lost (Temp v) threads u o row is uses = using-less threads v (with_use None) u o row (λ r. refl) is uses
 using-lost _ threads u o row is uses = using-same threads u o row is uses
 
-pub using-closed : (last : Bool) (x : ObjNo) (threads : List (Option ThreadRow)) (u o : ObjNo) (row : ThreadRow) → get_or (threads_closed last x threads) u.0 None ≡ Some row → row.uses ≡ Some o → WasUsing threads u o
+pub using-closed : (last : Bool) (x : ObjNo) (threads : List (Option ThreadRow)) (u o : ObjNo) (row : ThreadRow)
+    → get_or (threads_closed last x threads) u.0 None ≡ Some row → row.uses ≡ Some o → WasUsing threads u o
 using-closed true x threads u o row is uses = using-with threads x unlinked u o row (λ r. refl) is uses
 using-closed false x threads u o row is uses = using-same threads u o row is uses
 
-using-dies : (m : DeathMove) (threads : List (Option ThreadRow)) (u o : ObjNo) (row : ThreadRow) → get_or (with_row threads (death_thread m) (death_row m)) u.0 None ≡ Some row → row.uses ≡ Some o → WasUsing threads u o
+using-dies : (m : DeathMove) (threads : List (Option ThreadRow)) (u o : ObjNo) (row : ThreadRow)
+    → get_or (with_row threads (death_thread m) (death_row m)) u.0 None ≡ Some row → row.uses ≡ Some o
+    → WasUsing threads u o
 using-dies (death.Note v exit) threads u o row is uses = using-with threads v _ u o row (λ r. refl) is uses
 using-dies (death.Doom v exit) threads u o row is uses = using-with threads v _ u o row (λ r. refl) is uses
 using-dies (death.Clean v) threads u o row is uses = using-with threads v _ u o row (λ r. refl) is uses
@@ -146,7 +167,9 @@ unused-message (Accept slots row) r u = refl
 unused-message (Finish m code) r u = refl
 unused-message _ r u = refl
 
-pub uses-move : (script : Script) (S : State) (t : ObjNo) (m : Move) → FitsMove script t m S → (u o : ObjNo) (row : ThreadRow) → get_or (moved t m S).references.threads u.0 None ≡ Some row → row.uses ≡ Some o → UsesTold S.references.threads (told m S) u o
+pub uses-move : (script : Script) (S : State) (t : ObjNo) (m : Move) → FitsMove script t m S
+    → (u o : ObjNo) (row : ThreadRow) → get_or (moved t m S).references.threads u.0 None ≡ Some row → row.uses ≡ Some o
+    → UsesTold S.references.threads (told m S) u o
 uses-move script S t (Make kind name h) fits u o row is uses = using-gained h (next_object S) S.references.threads u o row is uses
 uses-move script S t (Gain h x) fits u o row is uses = using-gained h x S.references.threads u o row is uses
 uses-move script S t (Lose h x) fits u o row is uses =
@@ -158,12 +181,14 @@ uses-move script S t (Miss v x) fits u o row is uses = inr (refl, using-with S.r
 uses-move script S t (GoOn v part) fits u o row is uses = inr (refl, using-with S.references.threads v (with_part part) u o row (λ r. refl) is uses)
 uses-move script S t (Keep v number) fits u o row is uses = inr (refl, using-with S.references.threads v (with_kept number) u o row (λ r. refl) is uses)
 uses-move script S t (Write v x value) fits u o row is uses = inr (refl, using-with S.references.threads v (with_register x value) u o row (λ r. refl) is uses)
-uses-move script S t (WriteMessage v y number) fits u o row is uses = inr (refl, using-with S.references.threads v (with_message y number) u o row (λ r. refl) is uses)
+uses-move script S t (WriteMessage v y number) fits u o row is uses =
+    inr (refl, using-with S.references.threads v (with_message y number) u o row (λ r. refl) is uses)
 uses-move script S t (PutDown v) fits u o row is uses = inr (refl, using-less S.references.threads v (with_use None) u o row (λ r. refl) is uses)
 uses-move script S t (Advance v) fits u o row is uses = inr (refl, using-less S.references.threads v advanced u o row (λ r. refl) is uses)
 uses-move script S t (Wait v what) fits u o row is uses = inr (refl, using-with S.references.threads v (with_waiting what) u o row (λ r. refl) is uses)
 uses-move script S t (Wake v) fits u o row is uses = inr (refl, using-with S.references.threads v (with_waiting waiting.Nothing) u o row (λ r. refl) is uses)
-uses-move script S t (SetPriority v priority) fits u o row is uses = inr (refl, using-with S.references.threads v (with_priority priority) u o row (λ r. refl) is uses)
+uses-move script S t (SetPriority v priority) fits u o row is uses =
+    inr (refl, using-with S.references.threads v (with_priority priority) u o row (λ r. refl) is uses)
 uses-move script S t (Nano m) fits u o row is uses = inr (unused-nano m u, using-same S.references.threads u o row is uses)
 uses-move script S t (Requests m) fits u o row is uses = inr (unused-request m u, using-same S.references.threads u o row is uses)
 uses-move script S t (Locks m) fits u o row is uses = inr (unused-lock m u, using-same S.references.threads u o row is uses)
@@ -201,29 +226,45 @@ pub unused-pay : (S : State) (what : Owed) (u : ObjNo) → used_told (told (Pay 
 unused-pay S (Close h o) u = unused-close (dies S o) h o u
 unused-pay S (Sweep o) u = refl
 
-pub using-pay : (S : State) (t : ObjNo) (what : Owed) (u o : ObjNo) (row : ThreadRow) → get_or (moved t (Pay what) S).references.threads u.0 None ≡ Some row → row.uses ≡ Some o → WasUsing S.references.threads u o
+pub using-pay : (S : State) (t : ObjNo) (what : Owed) (u o : ObjNo) (row : ThreadRow)
+    → get_or (moved t (Pay what) S).references.threads u.0 None ≡ Some row → row.uses ≡ Some o
+    → WasUsing S.references.threads u o
 using-pay S t (Close h x) u o row is uses = using-closed (dies S x) x S.references.threads u o row is uses
-using-pay S t (Sweep x) u o row is uses = record { old = row; was = set_item (λ (y : Option ThreadRow). y ≡ Some row → get_or S.references.threads u.0 None ≡ Some row) S.references.threads x.0 u.0 None None (λ at e. absurd (cc)) (λ e. e) is; uses = uses }
+using-pay S t (Sweep x) u o row is uses = record {
+  old = row;
+  was =
+      set_item (λ (y : Option ThreadRow). y ≡ Some row → get_or S.references.threads u.0 None ≡ Some row)
+      S.references.threads x.0 u.0 None None (λ at e. absurd (cc)) (λ e. e) is;
+  uses = uses;
+}
 
 -- an object that is alive was alive, if it was made
 dead_not : (x : Option ObjectRow) → IsAlive (dead_row x) → ⊥
 dead_not None alive = alive
 dead_not (Some row) alive = absurd (cc)
 
-pub alive-closed : (last : Bool) (x : ObjNo) (objects : List (Option ObjectRow)) (o : ObjNo) → IsAlive (get_or (objects_closed last x objects) o.0 None) → IsAlive (get_or objects o.0 None)
+pub alive-closed : (last : Bool) (x : ObjNo) (objects : List (Option ObjectRow)) (o : ObjNo)
+    → IsAlive (get_or (objects_closed last x objects) o.0 None) → IsAlive (get_or objects o.0 None)
 alive-closed true x objects o alive = elim (cases_eq o.0 x.0) as (λ _. IsAlive (get_or objects o.0 None)) [
-  | inl at ↦ set_item (λ (y : Option ObjectRow). IsAlive y → IsAlive (get_or objects o.0 None)) objects x.0 o.0 (dead_row (get_or objects x.0 None)) None (λ e dead. absurd (dead_not (get_or objects x.0 None) dead)) (λ e. e) alive
+  | inl at ↦
+      set_item (λ (y : Option ObjectRow). IsAlive y → IsAlive (get_or objects o.0 None)) objects x.0 o.0
+      (dead_row (get_or objects x.0 None)) None (λ e dead. absurd (dead_not (get_or objects x.0 None) dead))
+      (λ e. e) alive
   | inr apart ↦ subst IsAlive (get_or-set_other objects x.0 o.0 (dead_row (get_or objects x.0 None)) None apart) alive
 ]
 alive-closed false x objects o alive = alive
 
-pub alive-move : (script : Script) (S : State) (t : ObjNo) (m : Move) → FitsMove script t m S → (o : ObjNo) → o.0 < length S.references.objects → IsAlive (object_of (moved t m S) o) → IsAlive (object_of S o)
-alive-move script S t (Make kind name h) fits o made alive = subst IsAlive (get_or-append S.references.objects (Some (new_object kind name) ∷ []) None o.0 made) alive
+pub alive-move : (script : Script) (S : State) (t : ObjNo) (m : Move) → FitsMove script t m S → (o : ObjNo)
+    → o.0 < length S.references.objects → IsAlive (object_of (moved t m S) o) → IsAlive (object_of S o)
+alive-move script S t (Make kind name h) fits o made alive =
+    subst IsAlive (get_or-append S.references.objects (Some (new_object kind name) ∷ []) None o.0 made) alive
 alive-move script S t (Lose h x) fits o made alive = alive-closed (dies S x) x S.references.objects o alive
 alive-move script S t (Pay what) fits o made alive = absurd fits
 alive-move script S t m fits o made alive = alive
 
-session-mapped : (f : SessionRow → SessionRow) (r : ServerRows) (x s : ObjNo) (row : SessionRow) → ((z : SessionRow) → (f z).slots ≡ z.slots) → get_or (slice_set r.sessions x.0 (option_map f (session_at r x))) s.0 None ≡ Some row → WasSession r s row
+session-mapped : (f : SessionRow → SessionRow) (r : ServerRows) (x s : ObjNo) (row : SessionRow)
+    → ((z : SessionRow) → (f z).slots ≡ z.slots)
+    → get_or (slice_set r.sessions x.0 (option_map f (session_at r x))) s.0 None ≡ Some row → WasSession r s row
 session-mapped f r x s row keeps is = elim (cases_eq x.0 s.0) as (λ _. WasSession r s row) [
   | inl at ↦
       let was = map_some f (session_at r s) row (sym (made-here (option_map f) None r.sessions x.0 s.0 refl at) ∙ is) in
@@ -231,7 +272,8 @@ session-mapped f r x s row keeps is = elim (cases_eq x.0 s.0) as (λ _. WasSessi
   | inr apart ↦ record { old = row; was = sym (made-other (option_map f) None r.sessions x.0 s.0 apart) ∙ is; slots = refl }
 ]
 
-pub session-closed : (last : Bool) (x : ObjNo) (r : ServerRows) (s : ObjNo) (row : SessionRow) → session_at (servers_closed last x r) s ≡ Some row → WasSession r s row
+pub session-closed : (last : Bool) (x : ObjNo) (r : ServerRows) (s : ObjNo) (row : SessionRow)
+    → session_at (servers_closed last x r) s ≡ Some row → WasSession r s row
 session-closed true x r s row is = session-mapped detached r x s row (λ z. refl) is
 session-closed false x r s row is = record { old = row; was = is; slots = refl }
 
@@ -243,46 +285,67 @@ pub closing-sessions : (os : List ObjNo) (r : ServerRows) → (all_closing os r)
 closing-sessions [] r = refl
 closing-sessions (x ∷ xs) r = closing-sessions xs (after_closing r x)
 
-pub session-move : (script : Script) (S : State) (t : ObjNo) (m : Move) → FitsMove script t m S → changing_bit m ≡ 0 → (s : ObjNo) (row : SessionRow) → session_at (moved t m S).serving.servers s ≡ Some row → WasSession S.serving.servers s row
+pub session-move : (script : Script) (S : State) (t : ObjNo) (m : Move) → FitsMove script t m S → changing_bit m ≡ 0
+    → (s : ObjNo) (row : SessionRow) → session_at (moved t m S).serving.servers s ≡ Some row
+    → WasSession S.serving.servers s row
 session-move script S t (Lose h x) fits none s row is =
     let one = session-closed (dies S x) x (servers_lose h S.serving.servers) s row is in
     let two = session-lost h S.serving.servers s one.old one.was in
     record { old = two.old; was = two.was; slots = two.slots ∙ one.slots }
-session-move script S t (Servers (CloseAll u)) fits none s row is = record { old = row; was = ap (λ (l : List (Option SessionRow)). get_or l s.0 None) (sym (closing-sessions (owned_by S.serving.owned u) S.serving.servers)) ∙ is; slots = refl }
+session-move script S t (Servers (CloseAll u)) fits none s row is = record {
+  old = row;
+  was =
+      ap (λ (l : List (Option SessionRow)). get_or l s.0 None)
+      (sym (closing-sessions (owned_by S.serving.owned u) S.serving.servers))
+      ∙ is;
+  slots = refl;
+}
 session-move script S t (Servers (SetOpen x to)) fits none s row is = session-mapped (opened to) S.serving.servers x s row (λ z. refl) is
 session-move script S t (Servers m) fits none s row is = absurd (omega arith)
 session-move script S t (Pay what) fits none s row is = absurd fits
 session-move script S t m fits none s row is = record { old = row; was = is; slots = refl }
 
-pub linked-closed : (last : Bool) (x : ObjNo) (objects : List (Option ObjectRow)) (r : ServerRows) (s v : ObjNo) → server_of r s ≡ Some v → (server_of (servers_closed last x r) s ≡ Some v) ⊎ (IsAlive (get_or (objects_closed last x objects) s.0 None) → ⊥)
+pub linked-closed : (last : Bool) (x : ObjNo) (objects : List (Option ObjectRow)) (r : ServerRows) (s v : ObjNo)
+    → server_of r s ≡ Some v
+    → (server_of (servers_closed last x r) s ≡ Some v) ⊎ (IsAlive (get_or (objects_closed last x objects) s.0 None) → ⊥)
 linked-closed false x objects r s v is = inl is
-linked-closed true x objects r s v is = elim (cases_eq x.0 s.0) as (λ _. (server_of (servers_closed true x r) s ≡ Some v) ⊎ (IsAlive (get_or (objects_closed true x objects) s.0 None) → ⊥)) [
-  | inl at ↦ inr (λ alive. set_here objects x s at alive)
-  | inr apart ↦ inl (ap link_of (made-other (option_map detached) None r.sessions x.0 s.0 apart) ∙ is)
-]
+linked-closed true x objects r s v is =
+    elim (cases_eq x.0 s.0) as (λ _. (server_of (servers_closed true x r) s ≡ Some v)
+    ⊎ (IsAlive (get_or (objects_closed true x objects) s.0 None) → ⊥)) [
+      | inl at ↦ inr (λ alive. set_here objects x s at alive)
+      | inr apart ↦ inl (ap link_of (made-other (option_map detached) None r.sessions x.0 s.0 apart) ∙ is)
+    ]
   where
     set_here : (l : List (Option ObjectRow)) (y z : ObjNo) → y.0 ≡ z.0 → IsAlive (get_or (slice_set l y.0 (dead_row (get_or l y.0 None))) z.0 None) → ⊥
     set_here l y z at alive = dead_not (get_or l z.0 None) (subst IsAlive (made-here dead_row None l y.0 z.0 refl at) alive)
 
-linked-lost : (h : Holder) (S : State) (x s v : ObjNo) → Holds S h x → server_of S.serving.servers s ≡ Some v → (server_of (servers_lose h S.serving.servers) s ≡ Some v) ⊎ (0 < total (detach_bit v) (Lose h x ∷ []))
-linked-lost (Link y) S x s v holds is = elim (cases_eq y.0 s.0) as (λ _. (server_of (servers_lose (Link y) S.serving.servers) s ≡ Some v) ⊎ (0 < total (detach_bit v) (Lose (Link y) x ∷ []))) [
-  | inl at ↦
-      let both : Some x ≡ Some v = sym holds ∙ (ap (server_of S.serving.servers) (same_object y s at) ∙ is) in
-      let own : x ≡ v = cc in
-      inr (let self = same_self v in let one : same x v ≡ same v v = ap (λ (z : ObjNo). same z v) own in omega arith)
-  | inr apart ↦ inl (ap link_of (made-other (option_map detached) None S.serving.servers.sessions y.0 s.0 apart) ∙ is)
-]
+linked-lost : (h : Holder) (S : State) (x s v : ObjNo) → Holds S h x → server_of S.serving.servers s ≡ Some v
+    → (server_of (servers_lose h S.serving.servers) s ≡ Some v) ⊎ (0 < total (detach_bit v) (Lose h x ∷ []))
+linked-lost (Link y) S x s v holds is =
+    elim (cases_eq y.0 s.0) as (λ _. (server_of (servers_lose (Link y) S.serving.servers) s ≡ Some v)
+    ⊎ (0 < total (detach_bit v) (Lose (Link y) x ∷ []))) [
+      | inl at ↦
+          let both : Some x ≡ Some v = sym holds ∙ (ap (server_of S.serving.servers) (same_object y s at) ∙ is) in
+          let own : x ≡ v = cc in
+          inr (let self = same_self v in let one : same x v ≡ same v v = ap (λ (z : ObjNo). same z v) own in omega arith)
+      | inr apart ↦ inl (ap link_of (made-other (option_map detached) None S.serving.servers.sessions y.0 s.0 apart) ∙ is)
+    ]
 linked-lost _ S x s v holds is = inl is
 
-pub linked-move : (script : Script) (S : State) (t : ObjNo) (m : Move) → FitsMove script t m S → changing_bit m ≡ 0 → (s v : ObjNo) → server_of S.serving.servers s ≡ Some v → StillLinked (moved t m S) (m ∷ []) s v
+pub linked-move : (script : Script) (S : State) (t : ObjNo) (m : Move) → FitsMove script t m S → changing_bit m ≡ 0
+    → (s v : ObjNo) → server_of S.serving.servers s ≡ Some v → StillLinked (moved t m S) (m ∷ []) s v
 linked-move script S t (Lose h x) fits none s v is = elim (linked-lost h S x s v fits.1 is) as (λ _. StillLinked (moved t (Lose h x) S) (Lose h x ∷ []) s v) [
   | inr detached ↦ inr (inr detached)
-  | inl still ↦ elim (linked-closed (dies S x) x S.references.objects (servers_lose h S.serving.servers) s v still) as (λ _. StillLinked (moved t (Lose h x) S) (Lose h x ∷ []) s v) [
-    | inl linked ↦ inl linked
-    | inr dead ↦ inr (inl dead)
-  ]
+  | inl still ↦
+      elim (linked-closed (dies S x) x S.references.objects (servers_lose h S.serving.servers) s v still) as
+      (λ _. StillLinked (moved t (Lose h x) S) (Lose h x ∷ []) s v) [
+        | inl linked ↦ inl linked
+        | inr dead ↦ inr (inl dead)
+      ]
 ]
-linked-move script S t (Servers (CloseAll u)) fits none s v is = inl (ap (λ (l : List (Option SessionRow)). link_of (get_or l s.0 None)) (closing-sessions (owned_by S.serving.owned u) S.serving.servers) ∙ is)
+linked-move script S t (Servers (CloseAll u)) fits none s v is =
+    inl (ap (λ (l : List (Option SessionRow)). link_of (get_or l s.0 None))
+    (closing-sessions (owned_by S.serving.owned u) S.serving.servers) ∙ is)
 linked-move script S t (Servers (SetOpen x to)) fits none s v is = inl (mapped-value link_of (opened to) S.serving.servers.sessions x.0 s.0 (λ z. refl) ∙ is)
 linked-move script S t (Servers m) fits none s v is = absurd (omega arith)
 linked-move script S t (Pay what) fits none s v is = absurd fits

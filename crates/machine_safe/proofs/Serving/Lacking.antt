@@ -115,7 +115,9 @@ asks-taking : (i : Instr) (p : Option Part) → takes_at i p ≡ true → asks i
 asks-taking (instr.Receive x y) (Some part.Done) e = refl
 asks-taking i p e = absurd (cc)
 
-module _ (script : Script) (S : State) (rows : AreRows script S) (kinds : AreKinds S) (has : Facts script asked (MetAt script) S) (t : ObjNo) (old : ThreadRow) (i : Instr) (is : thread_of S t ≡ Some old) (live : old.stage ≡ Live) (at : instruction script old ≡ Some i) where
+module _ (script : Script) (S : State) (rows : AreRows script S) (kinds : AreKinds S)
+    (has : Facts script asked (MetAt script) S) (t : ObjNo) (old : ThreadRow) (i : Instr) (is : thread_of S t ≡ Some old)
+    (live : old.stage ≡ Live) (at : instruction script old ≡ Some i) where
   met : IsMet S t old i old.part
   met = met-of script S has t old i is live at
 

@@ -77,7 +77,9 @@ first-same a b xs ys e = (cc, cc)
 last-split : {A : Type 0} (xs : List A) (x : A) (ys : List A) (y : A) (zs : List A) → xs ++ x ∷ [] ≡ ys ++ y ∷ zs → IsEnd xs x ys y ⊎ IsBehind xs x ys y zs
 last-split [] x [] y zs e = let parts = first-same x y [] zs e in inl (record { front = refl; same = sym parts.0 })
 last-split [] x (b ∷ ys) y zs e = let parts = first-same x b [] (ys ++ y ∷ zs) e in absurd (no-front ys zs y parts.1)
-last-split (a ∷ xs) x [] y zs e = let parts = first-same a y (xs ++ x ∷ []) zs e in inr (record { rest = xs; behind = sym parts.1; within = ap (λ z. z ∷ xs) parts.0 })
+last-split (a ∷ xs) x [] y zs e =
+    let parts = first-same a y (xs ++ x ∷ []) zs e in
+    inr (record { rest = xs; behind = sym parts.1; within = ap (λ z. z ∷ xs) parts.0 })
 last-split (a ∷ xs) x (b ∷ ys) y zs e =
     let parts = first-same a b (xs ++ x ∷ []) (ys ++ y ∷ zs) e in
     elim (last-split xs x ys y zs parts.1) as (λ _. IsEnd (a ∷ xs) x (b ∷ ys) y ⊎ IsBehind (a ∷ xs) x (b ∷ ys) y zs) [
@@ -96,7 +98,9 @@ accepted-on before e m a = record {
 }
 
 -- and so does what is known of a message that the entry leaves
-pub known-on : (script : Script) (before : List Entry) (e : Entry) (p : Post) → Known script before p → server_told e.effects p.session ≡ None → ends e.effects p.server ≡ 0 → finishes e.effects p.number ≡ 0 → Known script (before ++ e ∷ []) p
+pub known-on : (script : Script) (before : List Entry) (e : Entry) (p : Post) → Known script before p
+    → server_told e.effects p.session ≡ None → ends e.effects p.server ≡ 0 → finishes e.effects p.number ≡ 0
+    → Known script (before ++ e ∷ []) p
 known-on script before e p h unlinked unended unfinished =
     let es = effects-push before e in
     record {
@@ -104,9 +108,20 @@ known-on script before e p h unlinked unended unfinished =
       session = h.session;
       client = h.client;
       linked_then = h.linked_then;
-      linked = ap (λ (l : List Effect). server_told l p.session) es ∙ (server_told-append (effects_of before) e.effects p.session ∙ (ap (λ (x : Option ObjNo). or_before x (server_told (effects_of before) p.session)) unlinked ∙ h.linked));
-      lasts = let a = ap (λ (l : List Effect). ends l p.server) es in let b = ends-append (effects_of before) e.effects p.server in let c = h.lasts in omega arith;
-      unfinished = let a = ap (λ (l : List Effect). finishes l p.number) es in let b = finishes-append (effects_of before) e.effects p.number in let c = h.unfinished in omega arith;
+      linked =
+          ap (λ (l : List Effect). server_told l p.session) es
+          ∙ (server_told-append (effects_of before) e.effects p.session
+          ∙ (ap (λ (x : Option ObjNo). or_before x (server_told (effects_of before) p.session)) unlinked ∙ h.linked));
+      lasts =
+          let a = ap (λ (l : List Effect). ends l p.server) es in
+          let b = ends-append (effects_of before) e.effects p.server in
+          let c = h.lasts in
+          omega arith;
+      unfinished =
+          let a = ap (λ (l : List Effect). finishes l p.number) es in
+          let b = finishes-append (effects_of before) e.effects p.number in
+          let c = h.unfinished in
+          omega arith;
       way = h.way;
       undoomed = h.undoomed;
       slots = slots-kept script before e p.session unlinked ∙ h.slots;
@@ -117,7 +132,9 @@ pub accepts-told : (e : Entry) (m : MsgNo) → Accepts e m → 0 < accepts e.eff
 accepts-told e m a = let told = ap accepts a.told in omega arith
 
 -- an entry that accepts none: its acceptances are old ones
-pub old-accepted : (before : List Entry) (e : Entry) (m : MsgNo) (P : List Entry → ObjNo → Type 0) → accepts e.effects ≡ 0 → (a : WasAccepted (before ++ e ∷ []) m) → ((old : WasAccepted before m) → P old.before old.by.session) → P a.before a.by.session
+pub old-accepted : (before : List Entry) (e : Entry) (m : MsgNo) (P : List Entry → ObjNo → Type 0)
+    → accepts e.effects ≡ 0 → (a : WasAccepted (before ++ e ∷ []) m)
+    → ((old : WasAccepted before m) → P old.before old.by.session) → P a.before a.by.session
 old-accepted before e m P none a old = elim (last-split before e a.before a.at a.later a.stands) as (λ _. P a.before a.by.session) [
   | inl end ↦ let some = accepts-told a.at m a.by in let same = ap (λ (x : Entry). accepts x.effects) end.same in absurd (omega arith)
   | inr behind ↦ old (record { before = a.before; at = a.at; later = behind.rest; stands = behind.within; by = a.by })
@@ -135,13 +152,18 @@ abbrev second_object : List Effect → ObjNo → ObjNo
 second_object (first ∷ effect.Plus holder o ∷ rest) other = o
 second_object _ other = other
 
-same_told : (m n : MsgNo) (s x c d : ObjNo) (fs gs : List Effect) → effect.Accept m ∷ effect.Plus (holder.Message m) s ∷ effect.Plus (holder.Message m) c ∷ fs ≡ effect.Accept n ∷ effect.Plus (holder.Message n) x ∷ effect.Plus (holder.Message n) d ∷ gs → (m ≡ n) × (s ≡ x)
+same_told : (m n : MsgNo) (s x c d : ObjNo) (fs gs : List Effect)
+    → effect.Accept m ∷ effect.Plus (holder.Message m) s ∷ effect.Plus (holder.Message m) c ∷ fs
+    ≡ effect.Accept n ∷ effect.Plus (holder.Message n) x ∷ effect.Plus (holder.Message n) d ∷ gs
+    → (m ≡ n) × (s ≡ x)
 same_told m n s x c d fs gs e = (ap (λ (l : List Effect). accepted_number l m) e, ap (λ (l : List Effect). second_object l s) e)
 
 -- what stands in a list stands in it with more behind, and so does the last
 contains_front : {A : Type 0} (xs ys : List A) (x : A) → Contains xs x → Contains (xs ++ ys) x
 contains_front [] ys x there = absurd (none_contained x there)
-contains_front {A} (y ∷ xs) ys x there = contains_cases (λ z. Contains (y ∷ xs ++ ys) z) y xs x there (contains_first (xs ++ ys) y) (λ z behind. contains_behind y (xs ++ ys) z (contains_front xs ys z behind))
+contains_front {A} (y ∷ xs) ys x there =
+    contains_cases (λ z. Contains (y ∷ xs ++ ys) z) y xs x there (contains_first (xs ++ ys) y)
+    (λ z behind. contains_behind y (xs ++ ys) z (contains_front xs ys z behind))
 
 contains_last : {A : Type 0} (xs : List A) (x : A) → Contains (xs ++ x ∷ []) x
 contains_last [] x = contains_first [] x
@@ -159,36 +181,72 @@ module _ (script : Script) (before : List Entry) (S T : State) (e : Entry) (h : 
   pub letters-quiet : IsQuiet S T e.effects → ((p : Post) → Contains (posts S) p → ends e.effects p.server ≡ 0) → Letters script (before ++ e ∷ []) T
   letters-quiet q unended = record {
     accepted = let a = accepted-then in let b = q.accepts in let c = h.accepted in let d = q.accepted in omega arith;
-    known = λ p among. let was = subst (λ (l : List Post). Contains l p) q.posts among in known-on script before e p (h.known p was) (unlinked p was) (unended p was) (q.finishes p.number);
-    all = λ m a. old-accepted before e m (λ (l : List Entry) (s : ObjNo). (finishes (effects_of (before ++ e ∷ [])) m ≡ 1) ⊎ IsOut T m s (server_in l s)) q.accepts a (λ old.
+    known =
+        λ p among. let was = subst (λ (l : List Post). Contains l p) q.posts among in
+        known-on script before e p (h.known p was) (unlinked p was) (unended p was) (q.finishes p.number);
+    all =
+        λ m a. old-accepted before e m (λ (l : List Entry) (s : ObjNo). (finishes (effects_of (before ++ e ∷ [])) m ≡ 1)
+        ⊎ IsOut T m s (server_in l s)) q.accepts a (λ old.
         elim (h.all m old) as (λ _. (finishes (effects_of (before ++ e ∷ [])) m ≡ 1) ⊎ IsOut T m old.by.session (server_in old.before old.by.session)) [
           | inl done ↦ inl (let a = finished-then m in let b = q.finishes m in omega arith)
-          | inr out ↦ inr (record { post = out.post; among = subst (λ (l : List Post). Contains l out.post) (sym q.posts) out.among; number = out.number; over = out.over; at = out.at })
+          | inr out ↦
+              inr (record {
+                post = out.post;
+                among = subst (λ (l : List Post). Contains l out.post)
+                    (sym q.posts) out.among;
+                number = out.number;
+                over = out.over;
+                at = out.at;
+              })
         ]);
     later = λ m above. let a = finished-then m in let b = q.finishes m in let c = q.accepted in let d = h.later m (omega arith) in omega arith;
     sends = sends-quiet before e q.accepts q.finishes ∙ (h.sends ∙ ap over (sym q.posts));
   }
 
   -- a message comes
-  pub letters-more : (p : Post) → posts T ≡ posts S ++ p ∷ [] → T.serving.messages.accepted ≡ S.serving.messages.accepted + 1 → (a : Accepts e p.number) → p.number.0 ≡ S.serving.messages.accepted + 1 → accepts a.rest ≡ 0 → ((m : MsgNo) → finishes e.effects m ≡ 0) → a.session ≡ p.session → a.client ≡ p.client
-      → server_in before p.session ≡ Some p.server → server_told (effects_of before) p.session ≡ Some p.server → server_told e.effects p.session ≡ None → ((v : ObjNo) → ends e.effects v ≡ 0) → ends (effects_of before) p.server ≡ 0 → status_by e.step (instruction_in script before p.client) ≡ status_of_way p.way → (is_some (status_of_way p.way) ≡ true → dooms (effects_of before) p.client ≡ 0) → slots_in script before p.session ≡ Some p.slots → (if is_send e.step then sent_told e.effects else []) ≡ sent_of p.way p → Letters script (before ++ e ∷ []) T
+  pub letters-more : (p : Post) → posts T ≡ posts S ++ p ∷ []
+      → T.serving.messages.accepted ≡ S.serving.messages.accepted + 1 → (a : Accepts e p.number)
+      → p.number.0 ≡ S.serving.messages.accepted + 1 → accepts a.rest ≡ 0 → ((m : MsgNo) → finishes e.effects m ≡ 0)
+      → a.session ≡ p.session → a.client ≡ p.client
+      → server_in before p.session ≡ Some p.server → server_told (effects_of before) p.session ≡ Some p.server
+      → server_told e.effects p.session ≡ None → ((v : ObjNo) → ends e.effects v ≡ 0)
+      → ends (effects_of before) p.server ≡ 0 → status_by e.step (instruction_in script before p.client)
+      ≡ status_of_way p.way → (is_some (status_of_way p.way) ≡ true → dooms (effects_of before) p.client ≡ 0)
+      → slots_in script before p.session ≡ Some p.slots → (if is_send e.step then sent_told e.effects else [])
+      ≡ sent_of p.way p → Letters script (before ++ e ∷ []) T
   letters-more p posts_then more a number none unfinished session client linked_then linked unlinked_new unended lasts way undoomed slots sends = record {
     accepted = let b = accepted-then in let c = ap accepts a.told in let d = h.accepted in omega arith;
-    known = λ x among. elim (Contains-push_cases (posts S) p x (subst (λ (l : List Post). Contains l x) posts_then among)) as (λ _. Known script (before ++ e ∷ []) x) [
-      | inl was ↦ known-on script before e x (h.known x was) (unlinked x was) (unended x.server) (unfinished x.number)
-      | inr own ↦ subst (Known script (before ++ e ∷ [])) own new
-    ];
-    all = λ m w. elim (last-split before e w.before w.at w.later w.stands) as (λ _. (finishes (effects_of (before ++ e ∷ [])) m ≡ 1) ⊎ IsOut T m w.by.session (server_in w.before w.by.session)) [
-      | inl end ↦ inr (newly m w.before w.at w.by end.front end.same)
-      | inr behind ↦
-          let old : WasAccepted before m = record { before = w.before; at = w.at; later = behind.rest; stands = behind.within; by = w.by } in
-          elim (h.all m old) as (λ _. (finishes (effects_of (before ++ e ∷ [])) m ≡ 1) ⊎ IsOut T m w.by.session (server_in w.before w.by.session)) [
-            | inl done ↦ inl (let b = finished-then m in let c = unfinished m in omega arith)
-            | inr out ↦ inr (record { post = out.post; among = subst (λ (l : List Post). Contains l out.post) (sym posts_then) (contains_front (posts S) (p ∷ []) out.post out.among); number = out.number; over = out.over; at = out.at })
-          ]
-    ];
+    known =
+        λ x among. elim (Contains-push_cases (posts S) p x (subst (λ (l : List Post). Contains l x) posts_then among)) as
+        (λ _. Known script (before ++ e ∷ []) x) [
+          | inl was ↦ known-on script before e x (h.known x was) (unlinked x was) (unended x.server) (unfinished x.number)
+          | inr own ↦ subst (Known script (before ++ e ∷ [])) own new
+        ];
+    all =
+        λ m w. elim (last-split before e w.before w.at w.later w.stands) as
+        (λ _. (finishes (effects_of (before ++ e ∷ [])) m ≡ 1) ⊎ IsOut T m w.by.session (server_in w.before w.by.session)) [
+          | inl end ↦ inr (newly m w.before w.at w.by end.front end.same)
+          | inr behind ↦
+              let old : WasAccepted before m = record { before = w.before; at = w.at; later = behind.rest; stands = behind.within; by = w.by } in
+              elim (h.all m old) as (λ _. (finishes (effects_of (before ++ e ∷ [])) m ≡ 1) ⊎ IsOut T m w.by.session (server_in w.before w.by.session)) [
+                | inl done ↦ inl (let b = finished-then m in let c = unfinished m in omega arith)
+                | inr out ↦
+                    inr (record {
+                      post = out.post;
+                      among = subst (λ (l : List Post). Contains l out.post) (sym posts_then)
+                          (contains_front (posts S) (p ∷ []) out.post out.among);
+                      number = out.number;
+                      over = out.over;
+                      at = out.at;
+                    })
+              ]
+        ];
     later = λ m above. let b = finished-then m in let c = unfinished m in let d = h.later m (omega arith) in omega arith;
-    sends = sends-more before e p [] unfinished new.unfinished sends ∙ (ap (λ (l : List SentOver). l ++ sent_of p.way p) h.sends ∙ (sym (ap (λ (l : List SentOver). over (posts S) ++ l) (append-nil (sent_of p.way p))) ∙ (sym (over-append (posts S) (p ∷ [])) ∙ ap over (sym posts_then))));
+    sends =
+        sends-more before e p [] unfinished new.unfinished sends
+        ∙ (ap (λ (l : List SentOver). l ++ sent_of p.way p) h.sends
+        ∙ (sym (ap (λ (l : List SentOver). over (posts S) ++ l) (append-nil (sent_of p.way p)))
+        ∙ (sym (over-append (posts S) (p ∷ [])) ∙ ap over (sym posts_then))));
   }
     where
       es : effects_of (before ++ e ∷ []) ≡ effects_of before ++ e.effects
@@ -200,8 +258,15 @@ module _ (script : Script) (before : List Entry) (S T : State) (e : Entry) (h : 
         session = session;
         client = client;
         linked_then = ap (server_in before) session ∙ linked_then;
-        linked = ap (λ (l : List Effect). server_told l p.session) es ∙ (server_told-append (effects_of before) e.effects p.session ∙ (ap (λ (x : Option ObjNo). or_before x (server_told (effects_of before) p.session)) unlinked_new ∙ linked));
-        lasts = let b = ap (λ (l : List Effect). ends l p.server) es in let c = ends-append (effects_of before) e.effects p.server in let d = unended p.server in omega arith;
+        linked =
+            ap (λ (l : List Effect). server_told l p.session) es
+            ∙ (server_told-append (effects_of before) e.effects p.session
+            ∙ (ap (λ (x : Option ObjNo). or_before x (server_told (effects_of before) p.session)) unlinked_new ∙ linked));
+        lasts =
+            let b = ap (λ (l : List Effect). ends l p.server) es in
+            let c = ends-append (effects_of before) e.effects p.server in
+            let d = unended p.server in
+            omega arith;
         unfinished = let b = finished-then p.number in let c = unfinished p.number in let d = h.later p.number (omega arith) in omega arith;
         way = way;
         undoomed = undoomed;
@@ -221,28 +286,52 @@ module _ (script : Script) (before : List Entry) (S T : State) (e : Entry) (h : 
           }
 
   -- a message goes
-  pub letters-less : (p : Post) → Contains (posts S) p → ((x : Post) → Contains (posts T) x → Contains (posts S) x × (x.number.0 ≢ p.number.0)) → ((x : Post) → Contains (posts S) x → (x.number.0 ≢ p.number.0) → Contains (posts T) x) → T.serving.messages.accepted ≡ S.serving.messages.accepted
-      → accepts e.effects ≡ 0 → ((m : MsgNo) → finishes e.effects m ≡ (if p.number.0 == m.0 then 1 else 0)) → ((v : ObjNo) → ends e.effects v ≡ 0) → p.number.0 ≤ S.serving.messages.accepted → over (posts T) ≡ filter (λ (x : SentOver). not (p.number.0 == x.number.0)) (over (posts S)) → Letters script (before ++ e ∷ []) T
+  pub letters-less : (p : Post) → Contains (posts S) p
+      → ((x : Post) → Contains (posts T) x → Contains (posts S) x × (x.number.0 ≢ p.number.0))
+      → ((x : Post) → Contains (posts S) x → (x.number.0 ≢ p.number.0) → Contains (posts T) x)
+      → T.serving.messages.accepted ≡ S.serving.messages.accepted
+      → accepts e.effects ≡ 0 → ((m : MsgNo) → finishes e.effects m ≡ (if p.number.0 == m.0 then 1 else 0))
+      → ((v : ObjNo) → ends e.effects v ≡ 0) → p.number.0 ≤ S.serving.messages.accepted → over (posts T)
+      ≡ filter (λ (x : SentOver). not (p.number.0 == x.number.0)) (over (posts S)) → Letters script (before ++ e ∷ []) T
   letters-less p there fewer others same none goes unended given sends = record {
     accepted = let b = accepted-then in let d = h.accepted in omega arith;
-    known = λ x among. let was = fewer x among in known-on script before e x (h.known x was.0) (unlinked x was.0) (unended x.server) (goes x.number ∙ if_not (p.number.0 == x.number.0) 1 (eqb_apart p.number.0 x.number.0 (λ e. was.1 (sym e))));
-    all = λ m a. old-accepted before e m (λ (l : List Entry) (s : ObjNo). (finishes (effects_of (before ++ e ∷ [])) m ≡ 1) ⊎ IsOut T m s (server_in l s)) none a (λ old.
+    known =
+        λ x among. let was = fewer x among in known-on script before e x (h.known x was.0) (unlinked x was.0)
+        (unended x.server) (goes x.number ∙ if_not (p.number.0 == x.number.0) 1
+        (eqb_apart p.number.0 x.number.0 (λ e. was.1 (sym e))));
+    all =
+        λ m a. old-accepted before e m (λ (l : List Entry) (s : ObjNo). (finishes (effects_of (before ++ e ∷ [])) m ≡ 1)
+        ⊎ IsOut T m s (server_in l s)) none a (λ old.
         elim (h.all m old) as (λ _. (finishes (effects_of (before ++ e ∷ [])) m ≡ 1) ⊎ IsOut T m old.by.session (server_in old.before old.by.session)) [
           | inl done ↦ inl (
               let b = finished-then m in
-              let apart : p.number.0 ≡ m.0 → ⊥ = λ at. let unfinished = (h.known p there).unfinished in let own = ap (finishes (effects_of before)) (same_number p.number m at) in absurd (omega arith) in
+              let apart : p.number.0 ≡ m.0 → ⊥ = λ at. let unfinished = (h.known p there).unfinished in
+              let own = ap (finishes (effects_of before)) (same_number p.number m at) in
+              absurd (omega arith) in
               let c = goes m in
               let d = if_not (p.number.0 == m.0) 1 (eqb_apart p.number.0 m.0 apart) in omega arith)
-          | inr out ↦ elim (cases_eq p.number.0 m.0) as (λ _. (finishes (effects_of (before ++ e ∷ [])) m ≡ 1) ⊎ IsOut T m old.by.session (server_in old.before old.by.session)) [
-            | inl at ↦ inl (
-                let b = finished-then m in
-                let c = goes m in
-                let d = if_is (p.number.0 == m.0) 1 (eq-eqb p.number.0 m.0 at) in
-                let unfinished = (h.known p there).unfinished in
-                let own = ap (finishes (effects_of before)) (same_number p.number m at) in omega arith)
-            | inr apart ↦ inr (record { post = out.post; among = others out.post out.among (λ e. apart (sym e ∙ ap (λ (z : MsgNo). z.0) out.number)); number = out.number; over = out.over; at = out.at })
-          ]
+          | inr out ↦
+              elim (cases_eq p.number.0 m.0) as (λ _. (finishes (effects_of (before ++ e ∷ [])) m ≡ 1)
+              ⊎ IsOut T m old.by.session (server_in old.before old.by.session)) [
+                | inl at ↦ inl (
+                    let b = finished-then m in
+                    let c = goes m in
+                    let d = if_is (p.number.0 == m.0) 1 (eq-eqb p.number.0 m.0 at) in
+                    let unfinished = (h.known p there).unfinished in
+                    let own = ap (finishes (effects_of before)) (same_number p.number m at) in omega arith)
+                | inr apart ↦
+                    inr (record {
+                      post = out.post;
+                      among = others out.post out.among
+                          (λ e. apart (sym e ∙ ap (λ (z : MsgNo). z.0) out.number));
+                      number = out.number;
+                      over = out.over;
+                      at = out.at;
+                    })
+              ]
         ]);
-    later = λ m above. let b = finished-then m in let c = goes m in let d = h.later m (omega arith) in let f = if_not (p.number.0 == m.0) 1 (eqb_apart p.number.0 m.0 (λ e. absurd (omega arith))) in omega arith;
+    later =
+        λ m above. let b = finished-then m in let c = goes m in let d = h.later m (omega arith) in
+        let f = if_not (p.number.0 == m.0) 1 (eqb_apart p.number.0 m.0 (λ e. absurd (omega arith))) in omega arith;
     sends = sends-less before e p none goes ∙ (ap (λ (l : List SentOver). filter (λ (x : SentOver). not (p.number.0 == x.number.0)) l) h.sends ∙ sym sends);
   }

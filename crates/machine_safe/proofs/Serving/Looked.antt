@@ -68,7 +68,9 @@ looked-append [] e u = sym (or-none (looks e u))
 looked-append (x ∷ xs) e u = ap (λ (o : Option ObjNo). or_before o (looks x u)) (looked-append xs e u) ∙ or-three (looks e u) (looked_in xs u) (looks x u)
 
 looked-same : (before : List Entry) (e : Entry) (u : ObjNo) → used_told e.effects u ≡ None → looked_in (before ++ e ∷ []) u ≡ looked_in before u
-looked-same before e u none = looked-append before e u ∙ ap (λ (o : Option ObjNo). or_before o (looked_in before u)) (by (is_by u e.actor && looks_to_send e.step))
+looked-same before e u none =
+    looked-append before e u
+    ∙ ap (λ (o : Option ObjNo). or_before o (looked_in before u)) (by (is_by u e.actor && looks_to_send e.step))
   where
     by : (b : Bool) → (if b then used_told e.effects u else None) ≡ None
     by true = none
@@ -78,11 +80,13 @@ looked-same before e u none = looked-append before e u ∙ ap (λ (o : Option Ob
 none-both : (a b : Option ObjNo) → a ≡ None → b ≡ None → or_before a b ≡ None
 none-both a b p q = ap (λ (o : Option ObjNo). or_before o b) p ∙ q
 
-unused-each : (script : Script) (S : State) (t : ObjNo) (ms : List Move) (u : ObjNo) → EachFits script t ms S → total (use_bit u) ms ≡ 0 → used_told (tell t ms S) u ≡ None
+unused-each : (script : Script) (S : State) (t : ObjNo) (ms : List Move) (u : ObjNo) → EachFits script t ms S
+    → total (use_bit u) ms ≡ 0 → used_told (tell t ms S) u ≡ None
 unused-each script S t [] u fits none = refl
 unused-each script S t (m ∷ ms) u fits none =
     used_told-append (told m S) (tell t ms (moved t m S)) u
-    ∙ none-both (used_told (tell t ms (moved t m S)) u) (used_told (told m S) u) (unused-each script (moved t m S) t ms u fits.1 (omega arith)) (unused-move script S t m fits.0 u (omega arith))
+    ∙ none-both (used_told (tell t ms (moved t m S)) u) (used_told (told m S) u)
+    (unused-each script (moved t m S) t ms u fits.1 (omega arith)) (unused-move script S t m fits.0 u (omega arith))
 
 -- whoever uses something then used it before, at the same instruction
 record WasThere (script : Script) (S : State) (u o : ObjNo) (row : ThreadRow) : Type 0 where
@@ -92,7 +96,9 @@ record WasThere (script : Script) (S : State) (u o : ObjNo) (row : ThreadRow) : 
   pub place : row.next_instruction ≡ old.next_instruction
   pub uses : old.uses ≡ Some o
 
-still-move : (script : Script) (S : State) (t : ObjNo) (m : Move) → FitsMove script t m S → (u o : ObjNo) (row : ThreadRow) → thread_of (moved t m S) u ≡ Some row → row.uses ≡ Some o → steps_of t (m ∷ []) u.0 ≡ 0
+still-move : (script : Script) (S : State) (t : ObjNo) (m : Move) → FitsMove script t m S
+    → (u o : ObjNo) (row : ThreadRow) → thread_of (moved t m S) u ≡ Some row → row.uses ≡ Some o
+    → steps_of t (m ∷ []) u.0 ≡ 0
 still-move script S t (Advance v) fits u o row is uses = elim (cases_eq v.0 u.0) as (λ _. steps_of t (Advance v ∷ []) u.0 ≡ 0) [
   | inl at ↦
       let was = map_some advanced (get_or S.references.threads v.0 None) row (sym (row-here S.references.threads v advanced u.0 at) ∙ is) in
@@ -101,7 +107,9 @@ still-move script S t (Advance v) fits u o row is uses = elim (cases_eq v.0 u.0)
 ]
 still-move script S t m fits u o row is uses = if_zero (t.0 == u.0) (total advance_bit (m ∷ [])) refl
 
-there-move : (script : Script) (S : State) (t : ObjNo) (m : Move) → FitsMove script t m S → (u o : ObjNo) (row : ThreadRow) → thread_of (moved t m S) u ≡ Some row → row.uses ≡ Some o → use_bit u m ≡ 0 → WasThere script S u o row
+there-move : (script : Script) (S : State) (t : ObjNo) (m : Move) → FitsMove script t m S
+    → (u o : ObjNo) (row : ThreadRow) → thread_of (moved t m S) u ≡ Some row → row.uses ≡ Some o → use_bit u m ≡ 0
+    → WasThere script S u o row
 there-move script S t m fits u o row is uses unused =
     let at = at-move script S t m fits u.0 row is in
     let still = still-move script S t m fits u o row is uses in
@@ -110,20 +118,38 @@ there-move script S t m fits u o row is uses unused =
       | inl told ↦ absurd (cc)
       | inr same ↦
           let own : same.1.old ≡ at.old = (let a = same.1.was in let b = at.was in cc) in
-          record { old = at.old; was = at.was; role = at.role; place = let p = at.place in omega arith; uses = ap (λ (r : ThreadRow). r.uses) (sym own) ∙ same.1.uses }
+          record {
+            old = at.old;
+            was = at.was;
+            role = at.role;
+            place = let p = at.place in omega arith;
+            uses = ap (λ (r : ThreadRow). r.uses) (sym own) ∙ same.1.uses;
+          }
     ]
 
-there-then : (script : Script) (S T : State) (u o : ObjNo) (row : ThreadRow) (later : WasThere script T u o row) → WasThere script S u o later.old → WasThere script S u o row
-there-then script S T u o row later first = record { old = first.old; was = first.was; role = first.role ∙ later.role; place = later.place ∙ first.place; uses = first.uses }
+there-then : (script : Script) (S T : State) (u o : ObjNo) (row : ThreadRow) (later : WasThere script T u o row)
+    → WasThere script S u o later.old → WasThere script S u o row
+there-then script S T u o row later first = record {
+  old = first.old;
+  was = first.was;
+  role = first.role ∙ later.role;
+  place = later.place ∙ first.place;
+  uses = first.uses;
+}
 
-there-each : (script : Script) (S : State) (t : ObjNo) (ms : List Move) → EachFits script t ms S → (u o : ObjNo) (row : ThreadRow) → thread_of (perform t ms S) u ≡ Some row → row.uses ≡ Some o → total (use_bit u) ms ≡ 0 → WasThere script S u o row
+there-each : (script : Script) (S : State) (t : ObjNo) (ms : List Move) → EachFits script t ms S
+    → (u o : ObjNo) (row : ThreadRow) → thread_of (perform t ms S) u ≡ Some row → row.uses ≡ Some o
+    → total (use_bit u) ms ≡ 0 → WasThere script S u o row
 there-each script S t [] fits u o row is uses none = record { old = row; was = is; role = refl; place = refl; uses = uses }
 there-each script S t (m ∷ ms) fits u o row is uses none =
     let later = there-each script (moved t m S) t ms fits.1 u o row is uses (omega arith) in
     there-then script S (moved t m S) u o row later (there-move script S t m fits.0 u o later.old later.was later.uses (omega arith))
 
 -- so it looked for that still, after an entry that tells what the moves do
-looked-from : (script : Script) (before : List Entry) (S : State) (t : ObjNo) (ms : List Move) (e : Entry) → e.effects ≡ tell t ms S → Looked script before S → EachFits script t ms S → (u o : ObjNo) (row : ThreadRow) → total (use_bit u) ms ≡ 0 → thread_of (perform t ms S) u ≡ Some row → at_send (instruction script row) ≡ true → row.uses ≡ Some o → looked_in (before ++ e ∷ []) u ≡ Some o
+looked-from : (script : Script) (before : List Entry) (S : State) (t : ObjNo) (ms : List Move) (e : Entry)
+    → e.effects ≡ tell t ms S → Looked script before S → EachFits script t ms S → (u o : ObjNo) (row : ThreadRow)
+    → total (use_bit u) ms ≡ 0 → thread_of (perform t ms S) u ≡ Some row → at_send (instruction script row) ≡ true
+    → row.uses ≡ Some o → looked_in (before ++ e ∷ []) u ≡ Some o
 looked-from script before S t ms e tells looked fits u o row none is sends uses =
     let there = there-each script S t ms fits u o row is uses none in
     let same = same-instruction script there.old row there.role there.place in
@@ -141,23 +167,29 @@ module _ (script : Script) (before : List Entry) (S : State) (place : ℕ) (t : 
   LookedThen d = Looked script (before ++ entry_for place t S d ∷ []) (perform t d.moves S)
 
   unused-looked : {k : Kinds} (d : Decision) → FitsAction k script S t d → (k.uses ≡ false) ⊎ (0 < answer_bit d.answer) → LookedThen d
-  unused-looked d fits unused u o row is sends uses = looked-from script before S t d.moves (entry_for place t S d) refl looked fits.goes.each u o row (fits.regular.uses u (inr unused)) is sends uses
+  unused-looked d fits unused u o row is sends uses =
+      looked-from script before S t d.moves (entry_for place t S d) refl looked fits.goes.each u o row
+      (fits.regular.uses u (inr unused)) is sends uses
 
   -- at another instruction a thread comes to use what is no session of a `send`
-  other-looked : {k : Kinds} (d : Decision) (row : ThreadRow) (at : Option Instr) → thread_of S t ≡ Some row → instruction script row ≡ at → at_send at ≡ false → FitsAction k script S t d → LookedThen d
+  other-looked : {k : Kinds} (d : Decision) (row : ThreadRow) (at : Option Instr) → thread_of S t ≡ Some row
+      → instruction script row ≡ at → at_send at ≡ false → FitsAction k script S t d → LookedThen d
   other-looked d row at is here other fits u o now is_now sends uses = by d.answer refl
     where
       by : (x : Option ℤ) → d.answer ≡ x → looked_in (before ++ entry_for place t S d ∷ []) u ≡ Some o
       by (Some code) e = unused-looked d fits (inr (let one = ap answer_bit e in omega arith)) u o now is_now sends uses
       by None e = elim (cases_eq u.0 t.0) as (λ _. looked_in (before ++ entry_for place t S d ∷ []) u ≡ Some o) [
-        | inr apart ↦ looked-from script before S t d.moves (entry_for place t S d) refl looked fits.goes.each u o now (fits.regular.uses u (inl apart)) is_now sends uses
+        | inr apart ↦
+            looked-from script before S t d.moves (entry_for place t S d) refl looked fits.goes.each u o now
+            (fits.regular.uses u (inl apart)) is_now sends uses
         | inl same ↦
             let w = at-each script S t d.moves fits.goes.each u.0 now is_now in
             let none : total advance_bit d.moves ≡ 0 = fits.regular.answers ∙ ap answer_bit e in
             let still = if_zero (t.0 == u.0) (total advance_bit d.moves) none in
             let there : thread_of S t ≡ Some w.old = ap (λ (n : ℕ). get_or S.references.threads n None) (sym same) ∙ w.was in
             let own : w.old ≡ row = cc in
-            let at_now : instruction script now ≡ at = same-instruction script w.old now w.role (let p = w.place in omega arith) ∙ (ap (instruction script) own ∙ here) in
+            let at_now : instruction script now ≡ at = same-instruction script w.old now w.role
+            (let p = w.place in omega arith) ∙ (ap (instruction script) own ∙ here) in
             let so : at_send at ≡ true = ap at_send (sym at_now) ∙ sends in absurd (cc)
       ]
 
@@ -165,10 +197,13 @@ module _ (script : Script) (before : List Entry) (S : State) (place : ℕ) (t : 
   found-looked : (named : Option ObjNo) → FitsAction looking script S t (look_at t word.Send named) → LookedThen (look_at t word.Send named)
   found-looked None fits u o row is sends uses = unused-looked (look_at t word.Send None) fits (inr (omega arith)) u o row is sends uses
   found-looked (Some s) fits u o row is sends uses = elim (cases_eq u.0 t.0) as (λ _. looked_in (before ++ e ∷ []) u ≡ Some o) [
-    | inr apart ↦ looked-from script before S t (look_at t word.Send (Some s)).moves e refl looked fits.goes.each u o row (fits.regular.uses u (inl apart)) is sends uses
+    | inr apart ↦
+        looked-from script before S t (look_at t word.Send (Some s)).moves e refl looked fits.goes.each u o row
+        (fits.regular.uses u (inl apart)) is sends uses
     | inl same ↦
         let own : (t.0 == u.0) ≡ true = eq-eqb t.0 u.0 (sym same) in
-        let was = map_some (with_use (Some s)) (get_or (with_row S.references.threads t (with_part _)) t.0 None) row (sym (row-here (with_row S.references.threads t (with_part _)) t (with_use (Some s)) u.0 (sym same)) ∙ is) in
+        let was = map_some (with_use (Some s)) (get_or (with_row S.references.threads t (with_part _)) t.0 None) row
+        (sym (row-here (with_row S.references.threads t (with_part _)) t (with_use (Some s)) u.0 (sym same)) ∙ is) in
         let found : Some s ≡ Some o = ap (λ (z : ThreadRow). z.uses) was.2 ∙ uses in
         let tells : used_told e.effects u ≡ Some s = ap (λ (b : Bool). one_if b s) own in
         let here : looks e u ≡ Some s = ap (λ (b : Bool). if b && true then used_told e.effects u else None) own ∙ tells in
@@ -178,17 +213,29 @@ module _ (script : Script) (before : List Entry) (S : State) (place : ℕ) (t : 
       e : Entry
       e = entry_for place t S (look_at t word.Send (Some s))
 
-  send-looked : (row : ThreadRow) (x function y : ℕ) (args : Args) → FitsAction looking script S t (send_step S t row x function y args None) → LookedThen (send_step S t row x function y args None)
-  send-looked row x function y args fits = if_cases (λ (d : Decision). FitsAction looking script S t d → LookedThen d) (is_pending S.synchronization.requests t y) _ _
-      (λ _ fits. unused-looked _ fits (inr (omega arith))) (λ _ fits. found-looked (of_kind S kind.Session (object_at S t row (slice_index row.registers x))) fits) fits
+  send-looked : (row : ThreadRow) (x function y : ℕ) (args : Args)
+      → FitsAction looking script S t (send_step S t row x function y args None)
+      → LookedThen (send_step S t row x function y args None)
+  send-looked row x function y args fits =
+      if_cases (λ (d : Decision). FitsAction looking script S t d → LookedThen d)
+      (is_pending S.synchronization.requests t y) _ _
+      (λ _ fits. unused-looked _ fits (inr (omega arith)))
+      (λ _ fits. found-looked (of_kind S kind.Session (object_at S t row (slice_index row.registers x))) fits) fits
 
-  step-looked : (row : ThreadRow) (i : Instr) (p : Option Part) → thread_of S t ≡ Some row → instruction script row ≡ Some i → FitsAction (kind_of i p) script S t (step_of script S t row i p) → LookedThen (step_of script S t row i p)
+  step-looked : (row : ThreadRow) (i : Instr) (p : Option Part) → thread_of S t ≡ Some row
+      → instruction script row ≡ Some i → FitsAction (kind_of i p) script S t (step_of script S t row i p)
+      → LookedThen (step_of script S t row i p)
   step-looked row (instr.Send x function y args) None is here fits = send-looked row x function y args fits
-  step-looked row (instr.Send x function y args) (Some p) is here fits = unused-looked (step_of script S t row (instr.Send x function y args) (Some p)) fits (inl refl)
+  step-looked row (instr.Send x function y args) (Some p) is here fits =
+      unused-looked (step_of script S t row (instr.Send x function y args) (Some p)) fits (inl refl)
   step-looked row i p is here fits = other-looked (step_of script S t row i p) row (Some i) is here refl fits
 
-  return-looked : (row : ThreadRow) (i : Instr) → thread_of S t ≡ Some row → instruction script row ≡ Some i → FitsAction looking script S t (return_of S t row i) → LookedThen (return_of S t row i)
-  return-looked row (instr.Send x function y args) is here fits = λ u o now is_now sends uses. looked-from script before S t [] (entry_for place t S (return_of S t row (instr.Send x function y args))) refl looked tt u o now refl is_now sends uses
+  return-looked : (row : ThreadRow) (i : Instr) → thread_of S t ≡ Some row → instruction script row ≡ Some i
+      → FitsAction looking script S t (return_of S t row i) → LookedThen (return_of S t row i)
+  return-looked row (instr.Send x function y args) is here fits =
+      λ u o now is_now sends uses. looked-from script before S t []
+      (entry_for place t S (return_of S t row (instr.Send x function y args))) refl looked tt u o now refl is_now sends
+      uses
   return-looked row i is here fits = other-looked (return_of S t row i) row (Some i) is here refl fits
 
   -- what is owed is paid
@@ -210,18 +257,25 @@ module _ (script : Script) (before : List Entry) (S : State) (place : ℕ) (t : 
     pays = pay-looked;
   }) shaped rows
 
-module _ (script : Script) (before : List Entry) (S : State) (place : ℕ) (shaped : IsShaped script) (rows : AreRows script S) (looked : Looked script before S) where
+module _ (script : Script) (before : List Entry) (S : State) (place : ℕ) (shaped : IsShaped script)
+    (rows : AreRows script S) (looked : Looked script before S) where
   act-looked : (t : ObjNo) → Looked script (before ++ entry_by script S place (Thread t) ∷ []) (act script S t).state
   unfolding act
   act-looked t = decision-looked script before S place t looked shaped rows
 
   interrupt-looked : (k : ℕ) → Looked script (before ++ entry_by script S place (Irq k) ∷ []) (interrupt script S k).state
   unfolding interrupt
-  interrupt-looked k u o row is sends uses = let light = light-interrupt script S k shaped rows in looked-from script before S supervisor _ (entry_by script S place (Irq k)) refl looked light.each u o row (light.calm.uses u) is sends uses
+  interrupt-looked k u o row is sends uses =
+      let light = light-interrupt script S k shaped rows in
+      looked-from script before S supervisor _ (entry_by script S place (Irq k)) refl looked light.each u o row
+      (light.calm.uses u) is sends uses
 
   immediate-looked : Looked script (before ++ entry_by script S place Idfc ∷ []) (immediate script S).state
   unfolding immediate
-  immediate-looked u o row is sends uses = let light = light-immediate script S (next_immediate S.synchronization.deferred) shaped rows refl in looked-from script before S supervisor _ (entry_by script S place Idfc) refl looked light.each u o row (light.calm.uses u) is sends uses
+  immediate-looked u o row is sends uses =
+      let light = light-immediate script S (next_immediate S.synchronization.deferred) shaped rows refl in
+      looked-from script before S supervisor _ (entry_by script S place Idfc) refl looked light.each u o row
+      (light.calm.uses u) is sends uses
 
   next-looked : (actor : Actor) → Looked script (before ++ entry_by script S place actor ∷ []) (next script S actor)
   next-looked (Thread t) = act-looked t

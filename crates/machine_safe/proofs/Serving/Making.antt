@@ -55,7 +55,9 @@ module _ (script : Script) (r : Reading) (S : State) (t : ObjNo) (done : Step) (
   abbrev new_server : ServerRow
   new_server = record { owner = t; is_closing = false }
 
-  pub served-made_server : (name : List ℕ) → MayStartServer S (next_object S) t → t.0 < length S.serving.owned → makes_server done ≡ true → Undoomed r t → Served script (further r done (Plus (Own t) (next_object S) ∷ []) (λ k. 0)) (made name)
+  pub served-made_server : (name : List ℕ) → MayStartServer S (next_object S) t → t.0 < length S.serving.owned
+      → makes_server done ≡ true → Undoomed r t
+      → Served script (further r done (Plus (Own t) (next_object S) ∷ []) (λ k. 0)) (made name)
   served-made_server name may inside makes undoomed = record {
     rows = λ o row is. elim (cases_eq o.0 (next_object S).0) as (λ _. IsServed told (made name) o row) [
       | inl at ↦ own_row o row at is
@@ -82,13 +84,19 @@ module _ (script : Script) (r : Reading) (S : State) (t : ObjNo) (done : Step) (
         | inr over ↦ inr (let a = ends-append r.effects fs o in omega arith)
       ]
     ];
-    unmade = λ o past. let a = more-objects S (Some (new_object kind.Server name)) in let old = h.unmade o (omega arith) in let none = closings_same o in omega arith;
+    unmade =
+        λ o past. let a = more-objects S (Some (new_object kind.Server name)) in let old = h.unmade o (omega arith) in
+        let none = closings_same o in omega arith;
     places = λ k row is. let old = h.places k row is in record { first = old.first; is = old.is; role = old.role; place = let a = old.place in omega arith };
-    told_made = λ s v is. let a = more-objects S (Some (new_object kind.Server name)) in let inside = h.told_made s v (sym (server_told-append r.effects fs s) ∙ is) in omega arith;
+    told_made =
+        λ s v is. let a = more-objects S (Some (new_object kind.Server name)) in
+        let inside = h.told_made s v (sym (server_told-append r.effects fs s) ∙ is) in omega arith;
     told_linked = λ s v is alive.
         let was : server_told r.effects s ≡ Some v = sym (server_told-append r.effects fs s) ∙ is in
         let inside = h.told_made s v was in
-        elim (h.told_linked s v was (subst IsAlive (get_or-append S.references.objects (Some (new_object kind.Server name) ∷ []) None s.0 inside) alive)) as (λ _. (server_of (made name).serving.servers s ≡ Some v) ⊎ (is_closing (made name).serving.servers v ≡ true)) [
+        elim (h.told_linked s v was (subst IsAlive
+        (get_or-append S.references.objects (Some (new_object kind.Server name) ∷ []) None s.0 inside) alive)) as
+        (λ _. (server_of (made name).serving.servers s ≡ Some v) ⊎ (is_closing (made name).serving.servers v ≡ true)) [
           | inl linked ↦ inl (ap link_of (get_or-set_other S.serving.servers.sessions (next_object S).0 s.0 None None (λ e. absurd (omega arith))) ∙ linked)
           | inr closing ↦ inr (closing_kept v closing)
         ];
@@ -100,7 +108,8 @@ module _ (script : Script) (r : Reading) (S : State) (t : ObjNo) (done : Step) (
       told : Reading
       told = further r done fs (λ k. 0)
 
-      owner_there : (v : ObjNo) (b : Bool) → b ≡ true → or_before (if b then owner_told fs v else None) (r.owner v) ≡ or_before (one_if ((next_object S).0 == v.0) t) (r.owner v)
+      owner_there : (v : ObjNo) (b : Bool) → b ≡ true → or_before (if b then owner_told fs v else None) (r.owner v)
+          ≡ or_before (one_if ((next_object S).0 == v.0) t) (r.owner v)
       owner_there v true e = refl
       owner_there v false e = absurd (cc)
 
@@ -108,7 +117,8 @@ module _ (script : Script) (r : Reading) (S : State) (t : ObjNo) (done : Step) (
       owner_here v at = owner_there v (makes_server done) makes ∙ ap (λ (b : Bool). or_before (one_if b t) (r.owner v)) (eq-eqb (next_object S).0 v.0 at)
 
       owner_other : (v : ObjNo) → ((next_object S).0 ≡ v.0 → ⊥) → told.owner v ≡ r.owner v
-      owner_other v apart = owner_there v (makes_server done) makes ∙ ap (λ (b : Bool). or_before (one_if b t) (r.owner v)) (eqb_apart (next_object S).0 v.0 apart)
+      owner_other v apart = owner_there v (makes_server done) makes
+          ∙ ap (λ (b : Bool). or_before (one_if b t) (r.owner v)) (eqb_apart (next_object S).0 v.0 apart)
 
       closings_same : (v : ObjNo) → told.closings v ≡ r.closings v
       closings_same v = omega arith
@@ -129,13 +139,18 @@ module _ (script : Script) (r : Reading) (S : State) (t : ObjNo) (done : Step) (
       own_row o row at is =
           let few = may.room in
           let sized = rows.serving.servers.servers_sized in
-          let here : server_at (made name).serving.servers o ≡ Some new_server = ap (λ (n : ℕ). get_or (made name).serving.servers.servers n None) at ∙ get_or-set_same S.serving.servers.servers (next_object S).0 (Some new_server) None (omega arith) in
+          let here : server_at (made name).serving.servers o ≡ Some new_server =
+          ap (λ (n : ℕ). get_or (made name).serving.servers.servers n None) at
+          ∙ get_or-set_same S.serving.servers.servers (next_object S).0 (Some new_server) None (omega arith) in
           let both : Some row ≡ Some new_server = sym is ∙ here in
           let own : row ≡ new_server = cc in
           subst (IsServed told (made name) o) (sym own) (record {
             made = let a = more-objects S (Some (new_object kind.Server name)) in omega arith;
             owner = owner_here o (sym at);
-            closing = sym (closing_same o t (owner_here o (sym at)) ∙ ap (nat_lt 0) (let old = h.unmade o (omega arith) in let none : r.closings o + dooms r.effects t ≡ 0 = omega arith in none));
+            closing =
+                sym (closing_same o t (owner_here o (sym at))
+                ∙ ap (nat_lt 0) (let old = h.unmade o (omega arith) in
+                let none : r.closings o + dooms r.effects t ≡ 0 = omega arith in none));
             owned = λ not. let a = owns_new o (sym at) in omega arith;
           })
 
@@ -151,7 +166,9 @@ module _ (script : Script) (r : Reading) (S : State) (t : ObjNo) (done : Step) (
           }
 
       link-kept : (s o : ObjNo) → server_of (made name).serving.servers s ≡ Some o → server_of S.serving.servers s ≡ Some o
-      link-kept s o is = set_item (λ (x : Option SessionRow). link_of x ≡ Some o → link_of (get_or S.serving.servers.sessions s.0 None) ≡ Some o) S.serving.servers.sessions (next_object S).0 s.0 None None (λ at e. absurd (cc)) (λ e. e) is
+      link-kept s o is = set_item (λ (x : Option SessionRow). link_of x ≡ Some o
+          → link_of (get_or S.serving.servers.sessions s.0 None) ≡ Some o) S.serving.servers.sessions
+          (next_object S).0 s.0 None None (λ at e. absurd (cc)) (λ e. e) is
 
       closing_kept : (o : ObjNo) → is_closing S.serving.servers o ≡ true → is_closing (made name).serving.servers o ≡ true
       closing_kept o is = elim (cases_eq o.0 (next_object S).0) as (λ _. is_closing (made name).serving.servers o ≡ true) [
@@ -163,15 +180,25 @@ module _ (script : Script) (r : Reading) (S : State) (t : ObjNo) (done : Step) (
   abbrev joined : ObjNo → ObjNo → Slots → State
   joined s v slots = moved t (Servers (Join s v slots t)) S
 
-  pub served-joined : (s v : ObjNo) (slots : Slots) → MayJoinServer S s v → server_at S.serving.servers s ≡ None → makes_server done ≡ false → Served script (further r done (Plus (Link s) v ∷ []) (λ k. 0)) (joined s v slots)
+  pub served-joined : (s v : ObjNo) (slots : Slots) → MayJoinServer S s v → server_at S.serving.servers s ≡ None
+      → makes_server done ≡ false → Served script (further r done (Plus (Link s) v ∷ []) (λ k. 0)) (joined s v slots)
   served-joined s v slots may fresh makes = record {
     rows = λ o row is.
         let was = server_was o row is in
         let old = h.rows o row was in
-        record { made = old.made; owner = owner_same o ∙ old.owner; closing = old.closing ∙ (closing-count r o row.owner old.owner ∙ sym (closing_same o row.owner (owner_same o ∙ old.owner))); owned = old.owned };
+        record {
+          made = old.made;
+          owner = owner_same o ∙ old.owner;
+          closing =
+              old.closing
+              ∙ (closing-count r o row.owner old.owner ∙ sym (closing_same o row.owner (owner_same o ∙ old.owner)));
+          owned = old.owned;
+        };
     links = λ x o is. elim (cases_eq s.0 x.0) as (λ _. server_told told.effects x ≡ Some o) [
       | inl at ↦
-          let new : server_of (joined s v slots).serving.servers x ≡ Some v = ap (λ (n : ℕ). link_of (get_or (joined s v slots).serving.servers.sessions n None)) (sym at) ∙ ap link_of (get_or-set_same S.serving.servers.sessions s.0 (Some (new_session v slots t)) None inside) in
+          let new : server_of (joined s v slots).serving.servers x ≡ Some v =
+          ap (λ (n : ℕ). link_of (get_or (joined s v slots).serving.servers.sessions n None)) (sym at)
+          ∙ ap link_of (get_or-set_same S.serving.servers.sessions s.0 (Some (new_session v slots t)) None inside) in
           let both : Some o ≡ Some v = sym is ∙ new in
           let own : o ≡ v = cc in
           server_told-append r.effects fs x ∙ (ap (λ (b : Bool). or_before (one_if b v) (server_told r.effects x)) (eq-eqb s.0 x.0 at) ∙ ap Some (sym own))
@@ -191,16 +218,25 @@ module _ (script : Script) (r : Reading) (S : State) (t : ObjNo) (done : Step) (
       | inl at ↦ let inside = may.made in omega arith
       | inr apart ↦ h.told_made x o (before_join x o apart is)
     ];
-    told_linked = λ x o is alive. elim (cases_eq s.0 x.0) as (λ _. (server_of (joined s v slots).serving.servers x ≡ Some o) ⊎ (is_closing (joined s v slots).serving.servers o ≡ true)) [
-      | inl at ↦
-          let new : server_of (joined s v slots).serving.servers x ≡ Some v = ap (λ (n : ℕ). link_of (get_or (joined s v slots).serving.servers.sessions n None)) (sym at) ∙ ap link_of (get_or-set_same S.serving.servers.sessions s.0 (Some (new_session v slots t)) None inside) in
-          let now : server_told told.effects x ≡ Some v = server_told-append r.effects fs x ∙ ap (λ (b : Bool). or_before (one_if b v) (server_told r.effects x)) (eq-eqb s.0 x.0 at) in
-          inl (new ∙ (sym now ∙ is))
-      | inr apart ↦ elim (h.told_linked x o (before_join x o apart is) alive) as (λ _. (server_of (joined s v slots).serving.servers x ≡ Some o) ⊎ (is_closing (joined s v slots).serving.servers o ≡ true)) [
-        | inl linked ↦ inl (ap link_of (get_or-set_other S.serving.servers.sessions s.0 x.0 (Some (new_session v slots t)) None (λ e. apart (sym e))) ∙ linked)
-        | inr closing ↦ inr (closing_kept o closing)
-      ]
-    ];
+    told_linked =
+        λ x o is alive. elim (cases_eq s.0 x.0) as
+        (λ _. (server_of (joined s v slots).serving.servers x ≡ Some o)
+        ⊎ (is_closing (joined s v slots).serving.servers o ≡ true)) [
+          | inl at ↦
+              let new : server_of (joined s v slots).serving.servers x ≡ Some v =
+              ap (λ (n : ℕ). link_of (get_or (joined s v slots).serving.servers.sessions n None)) (sym at)
+              ∙ ap link_of (get_or-set_same S.serving.servers.sessions s.0 (Some (new_session v slots t)) None inside) in
+              let now : server_told told.effects x ≡ Some v = server_told-append r.effects fs x
+              ∙ ap (λ (b : Bool). or_before (one_if b v) (server_told r.effects x)) (eq-eqb s.0 x.0 at) in
+              inl (new ∙ (sym now ∙ is))
+          | inr apart ↦
+              elim (h.told_linked x o (before_join x o apart is) alive) as
+              (λ _. (server_of (joined s v slots).serving.servers x ≡ Some o)
+              ⊎ (is_closing (joined s v slots).serving.servers o ≡ true)) [
+                | inl linked ↦ inl (ap link_of (get_or-set_other S.serving.servers.sessions s.0 x.0 (Some (new_session v slots t)) None (λ e. apart (sym e))) ∙ linked)
+                | inr closing ↦ inr (closing_kept o closing)
+              ]
+        ];
   }
     where
       fs : List Effect
@@ -210,13 +246,16 @@ module _ (script : Script) (r : Reading) (S : State) (t : ObjNo) (done : Step) (
       told = further r done fs (λ k. 0)
 
       before_join : (x o : ObjNo) → (s.0 ≡ x.0 → ⊥) → server_told told.effects x ≡ Some o → server_told r.effects x ≡ Some o
-      before_join x o apart is = sym (server_told-append r.effects fs x ∙ ap (λ (b : Bool). or_before (one_if b v) (server_told r.effects x)) (eqb_apart s.0 x.0 apart)) ∙ is
+      before_join x o apart is = sym (server_told-append r.effects fs x
+          ∙ ap (λ (b : Bool). or_before (one_if b v) (server_told r.effects x)) (eqb_apart s.0 x.0 apart))
+          ∙ is
 
       inside : s.0 < length S.serving.servers.sessions
       inside = let a = may.made in let b = rows.references.sized.objects_few in let c = rows.serving.servers.sessions_sized in omega arith
 
       server_was : (o : ObjNo) (row : ServerRow) → server_at (joined s v slots).serving.servers o ≡ Some row → server_at S.serving.servers o ≡ Some row
-      server_was o row is = set_item (λ (x : Option ServerRow). x ≡ Some row → get_or S.serving.servers.servers o.0 None ≡ Some row) S.serving.servers.servers s.0 o.0 None None (λ at e. absurd (cc)) (λ e. e) is
+      server_was o row is = set_item (λ (x : Option ServerRow). x ≡ Some row → get_or S.serving.servers.servers o.0 None
+          ≡ Some row) S.serving.servers.servers s.0 o.0 None None (λ at e. absurd (cc)) (λ e. e) is
 
       owner_same : (o : ObjNo) → told.owner o ≡ r.owner o
       owner_same o = ap (λ (b : Bool). or_before (if b then owner_told fs o else None) (r.owner o)) makes
@@ -234,6 +273,10 @@ module _ (script : Script) (r : Reading) (S : State) (t : ObjNo) (done : Step) (
       closing_kept o is =
           let row = closing-row (server_at S.serving.servers o) is in
           elim (cases_eq o.0 s.0) as (λ _. is_closing (joined s v slots).serving.servers o ≡ true) [
-            | inl at ↦ let none : server_at S.serving.servers o ≡ None = ap (λ (n : ℕ). get_or S.serving.servers.servers n None) at ∙ fresh in let same = row.1 in absurd (cc)
+            | inl at ↦
+                let none : server_at S.serving.servers o
+                ≡ None = ap (λ (n : ℕ). get_or S.serving.servers.servers n None) at ∙ fresh in
+                let same = row.1 in
+                absurd (cc)
             | inr apart ↦ ap closes (get_or-set_other S.serving.servers.servers s.0 o.0 None None apart) ∙ is
           ]

@@ -73,8 +73,11 @@ pub met-kept : (S T : State) (u : ObjNo) (old row : ThreadRow) (i : Instr) → o
     → old.found ≡ row.found
     → ((s : ℕ) → IsUnset S.synchronization.requests u s → IsUnset T.synchronization.requests u s)
     → (is_some (want_of S.synchronization.nano u) ≡ true → is_some (want_of T.synchronization.nano u) ≡ true)
-    → ((k : Kind) (o : ObjNo) → IsOfKind S.references.objects k o → IsOfKind T.references.objects k o) → ((o : ObjNo) → receiving (Some i) old.part ≡ true → old.uses ≡ Some o → owner_of S.serving.servers o ≡ Some u → owner_of T.serving.servers o ≡ Some u)
-    → ((o : ObjNo) → receiving (Some i) old.part ≡ true → old.uses ≡ Some o → owner_of S.serving.servers o ≡ Some u → HasCome S old o → HasCome T row o) → Met S u old i old.part → Met T u row i row.part
+    → ((k : Kind) (o : ObjNo) → IsOfKind S.references.objects k o → IsOfKind T.references.objects k o)
+    → ((o : ObjNo) → receiving (Some i) old.part ≡ true → old.uses ≡ Some o → owner_of S.serving.servers o ≡ Some u
+    → owner_of T.serving.servers o ≡ Some u)
+    → ((o : ObjNo) → receiving (Some i) old.part ≡ true → old.uses ≡ Some o → owner_of S.serving.servers o ≡ Some u
+    → HasCome S old o → HasCome T row o) → Met S u old i old.part → Met T u row i row.part
 met-kept S T u old row i part uses found unset want kinds owned came met = record {
   unset = λ s is. unset s (met.unset s (ap (sets_status i) part ∙ is));
   wanted = λ is. want (met.wanted (ap (wants_at i) part ∙ is));
@@ -123,12 +126,14 @@ met-paid S t (duty.Close h x) u old row i was is part uses found met =
     met-kept S (moved t (Pay (duty.Close h x)) S) u old row i part uses found
     (λ s was. record { done = was.done; free = was.free }) (λ is. is)
     (λ k o was. kind-closed (dies S x) x S.references.objects k o was)
-    (λ o receives used own. own) (λ o receives used own come. come-later S (moved t (Pay (duty.Close h x)) S) old row o (sym (ap awaited_by was) ∙ paid-awaited S t (duty.Close h x) u row is) refl refl come) met
+    (λ o receives used own. own) (λ o receives used own come. come-later S (moved t (Pay (duty.Close h x)) S) old row o
+    (sym (ap awaited_by was) ∙ paid-awaited S t (duty.Close h x) u row is) refl refl come) met
 met-paid S t (duty.Sweep x) u old row i was is part uses found met =
     met-kept S (moved t (Pay (duty.Sweep x)) S) u old row i part uses found
     (λ s was. record { done = was.done; free = was.free }) (λ is. is)
     (λ k o was. kind-swept S.references.objects x.0 k o was)
-    (λ o receives used own. own) (λ o receives used own come. come-later S (moved t (Pay (duty.Sweep x)) S) old row o (sym (ap awaited_by was) ∙ paid-awaited S t (duty.Sweep x) u row is) refl refl come) met
+    (λ o receives used own. own) (λ o receives used own come. come-later S (moved t (Pay (duty.Sweep x)) S) old row o
+    (sym (ap awaited_by was) ∙ paid-awaited S t (duty.Sweep x) u row is) refl refl come) met
 
 -- what is received is asked
 receiving-asked : (at : Option Instr) (p : Option Part) → receiving at p ≡ true → asked at p ≡ true
@@ -160,10 +165,16 @@ own-before script None S ms own = (own-kept script).rests S ms own
 own-before script (Some v) S ms own = (own-kept script).begins S v ms own
 
 -- the server and the message of a thread at a `receive` stay
-module _ (script : Script) (S : State) (t : ObjNo) (ms : List Move) (rows : AreRows script S) (has : (v : ObjNo) (r : ThreadRow) → thread_of S v ≡ Some r → r.stage ≡ Live → asked (instruction script r) r.part ≡ true → MetAt script S v r) (u : ObjNo) (old row : ThreadRow) (was : thread_of S u ≡ Some old) (is : thread_of (perform t ms S) u ≡ Some row) (passes : Passes script S t ms u) (o : ObjNo) (owner : owner_of S.serving.servers o ≡ Some u) where
+module _ (script : Script) (S : State) (t : ObjNo) (ms : List Move) (rows : AreRows script S)
+    (has : (v : ObjNo) (r : ThreadRow) → thread_of S v ≡ Some r → r.stage ≡ Live → asked (instruction script r) r.part
+    ≡ true → MetAt script S v r) (u : ObjNo) (old row : ThreadRow) (was : thread_of S u ≡ Some old)
+    (is : thread_of (perform t ms S) u ≡ Some row) (passes : Passes script S t ms u) (o : ObjNo)
+    (owner : owner_of S.serving.servers o ≡ Some u) where
   untaken : (last : Option ObjNo) → IsTaking script (passes.on, S, last) o → ⊥
   untaken last taking =
-      let other = takes-own script S taking.thread o taking.row (has taking.thread taking.row taking.is taking.live (receiving-asked (instruction script taking.row) taking.row.part taking.at)) taking.at taking.uses in
+      let other = takes-own script S taking.thread o taking.row
+      (has taking.thread taking.row taking.is taking.live
+      (receiving-asked (instruction script taking.row) taking.row.part taking.at)) taking.at taking.uses in
       let both : Some taking.thread ≡ Some u = sym other ∙ owner in
       passes.apart (taking.on ∙ both)
 
@@ -222,7 +233,8 @@ pub met-of : (script : Script) (S : State) → Facts script asked (MetAt script)
 met-of script S has t old i is live at e = subst (MetBy S t old) at (has t old is live (ap (λ (x : Option Instr). asked x old.part) at ∙ asked-is i old.part e))
 
 -- it is there wherever a step goes on
-module _ (script : Script) (S : State) (t : ObjNo) (rows : AreRows script S) (own : Owned S) (straight : Facts script straying Nowhere S) (has : Facts script asked (MetAt script) S) where
+module _ (script : Script) (S : State) (t : ObjNo) (rows : AreRows script S) (own : Owned S)
+    (straight : Facts script straying Nowhere S) (has : Facts script asked (MetAt script) S) where
   gone-met : (T : State) (old row : ThreadRow) (i : Instr) (p : Option Part) (to : Part) → thread_of S t ≡ Some old
       → IsOn S t old i p T to row → IsMet S t old i p → asks i (Some to) ≡ true → instruction script row ≡ Some i
       → MetAt script T t row
@@ -232,10 +244,21 @@ module _ (script : Script) (S : State) (t : ObjNo) (rows : AreRows script S) (ow
 
   met-gives : StepsGive script asked (MetAt script) S t
   met-gives = record {
-    steps = λ old i here live going at was fits. course-gives script asked (MetAt script) (met-fact script) S rows own has t old i old.part (step_of script S t old i old.part) here at (straight-of script S straight t old i here live at)
-        (λ to there due row is now on. gone-met (perform t (step_of script S t old i old.part).moves S) old row i old.part to here on (met-of script S has t old i here live at) due now) fits (course script S t old here rows i old.part live at refl fits going);
-    returns = λ old i here live back at was fits. course-gives script asked (MetAt script) (met-fact script) S rows own has t old i (Some part.Return) (return_of S t old i) here at (λ q e. straight-of script S straight t old i here live at q (returning-part old.part back ∙ e))
-        (λ to there due row is now on. gone-met (perform t (return_of S t old i).moves S) old row i (Some part.Return) to here on (subst (IsMet S t old i) (returning-part old.part back) (met-of script S has t old i here live at)) due now) fits (return-course script S t old here rows i);
+    steps =
+        λ old i here live going at was fits. course-gives script asked (MetAt script)
+        (met-fact script) S rows own has t old i old.part (step_of script S t old i old.part) here at
+        (straight-of script S straight t old i here live at)
+        (λ to there due row is now on. gone-met
+        (perform t (step_of script S t old i old.part).moves S) old row i old.part to here on
+        (met-of script S has t old i here live at) due now) fits
+        (course script S t old here rows i old.part live at refl fits going);
+    returns =
+        λ old i here live back at was fits. course-gives script asked (MetAt script)
+        (met-fact script) S rows own has t old i (Some part.Return) (return_of S t old i) here at
+        (λ q e. straight-of script S straight t old i here live at q (returning-part old.part back ∙ e))
+        (λ to there due row is now on. gone-met (perform t (return_of S t old i).moves S) old row i
+        (Some part.Return) to here on (subst (IsMet S t old i) (returning-part old.part back)
+        (met-of script S has t old i here live at)) due now) fits (return-course script S t old here rows i);
   }
 
 -- each action leaves it, and at boot nothing is asked

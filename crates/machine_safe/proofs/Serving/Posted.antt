@@ -60,7 +60,14 @@ use Rattle.machine_safe.specs.SafeDeaths.{dooms}
 record IsPosted (S T : State) (t : ObjNo) (slots : Slots) (row : MsgRow) (effects : List Effect) : Type 0 where
   pub number : MsgNo
   pub next : number.0 ≡ S.serving.messages.accepted + 1
-  pub posts : posts T ≡ posts S ++ record { number = number; session = row.session; server = row.server; client = row.client; way = row.way; slots = slots } ∷ []
+  pub posts : posts T ≡ posts S ++ record {
+    number = number;
+    session = row.session;
+    server = row.server;
+    client = row.client;
+    way = row.way;
+    slots = slots;
+  } ∷ []
   pub pool : T.serving.messages.pool ≡ S.serving.messages.pool
   pub more : T.serving.messages.accepted ≡ S.serving.messages.accepted + 1
   pub rest : List Effect
@@ -71,7 +78,9 @@ record IsPosted (S T : State) (t : ObjNo) (slots : Slots) (row : MsgRow) (effect
 abbrev posts_of : State → List Post
 posts_of X = posts X
 
-posted-moves : (script : Script) (S : State) (t : ObjNo) (front back : List Move) (slots : Slots) (row : MsgRow) → EachFits script t (front ++ Messages (Accept slots row) ∷ back) S → tell t front S ≡ [] → total message_bit front ≡ 0 → total message_bit back ≡ 0
+posted-moves : (script : Script) (S : State) (t : ObjNo) (front back : List Move) (slots : Slots) (row : MsgRow)
+    → EachFits script t (front ++ Messages (Accept slots row) ∷ back) S → tell t front S ≡ []
+    → total message_bit front ≡ 0 → total message_bit back ≡ 0
     → IsPosted S (perform t (front ++ Messages (Accept slots row) ∷ back) S) t slots row (tell t (front ++ Messages (Accept slots row) ∷ back) S)
 posted-moves script S t front back slots row fits silent quiet still =
     let T = perform t front S in
@@ -83,11 +92,25 @@ posted-moves script S t front back slots row fits silent quiet still =
     let n = next_number T.serving.messages in
     let performed = perform-append t front (m ∷ back) S in
     let told_all = tell-append t front (m ∷ back) S in
-    let told : tell t (front ++ m ∷ back) S ≡ effect.Accept n ∷ effect.Plus (holder.Message n) row.session ∷ effect.Plus (holder.Message n) row.client ∷ tell t back U = told_all ∙ ap (λ (l : List Effect). l ++ tell t (m ∷ back) T) silent in
+    let told : tell t (front ++ m ∷ back) S
+    ≡ effect.Accept n ∷ effect.Plus (holder.Message n) row.session ∷ effect.Plus
+    (holder.Message n) row.client ∷ tell t back U =
+    told_all ∙ ap (λ (l : List Effect). l ++ tell t (m ∷ back) T) silent in
     record {
       number = n;
       next = let a = before.accepted in omega arith;
-      posts = ap posts_of performed ∙ (behind.posts ∙ (map-append post_of T.serving.messages.outstanding (record { number = n; slots = slots; row = row } ∷ []) ∙ ap (λ (l : List Post). l ++ record { number = n; session = row.session; server = row.server; client = row.client; way = row.way; slots = slots } ∷ []) before.posts));
+      posts =
+          ap posts_of performed
+          ∙ (behind.posts ∙ (map-append post_of T.serving.messages.outstanding
+          (record { number = n; slots = slots; row = row } ∷ [])
+          ∙ ap (λ (l : List Post). l ++ record {
+            number = n;
+            session = row.session;
+            server = row.server;
+            client = row.client;
+            way = row.way;
+            slots = slots;
+          } ∷ []) before.posts));
       pool = ap (λ (X : State). X.serving.messages.pool) performed ∙ (behind.pool ∙ before.pool);
       more = ap (λ (X : State). X.serving.messages.accepted) performed ∙ (let a = behind.accepted in let b = before.accepted in omega arith);
       rest = tell t back U;
@@ -100,12 +123,21 @@ session-row : (x : Option SessionRow) (v : ObjNo) → link_of x ≡ Some v → (
 session-row None v e = absurd (cc)
 session-row (Some row) v e = (row, refl)
 
-module _ (script : Script) (before : List Entry) (S : State) (place : ℕ) (t : ObjNo) (rows : AreRows script S) (book : Book script before S) (looked : Looked script before S) where
-  pub turn-sends : {k : Kinds} (d : Decision) → IsRegular k script S t d → IsSending S t (instruction_in script before t) d → Doing script S t d.moves → ((u : ObjNo) (row : ThreadRow) → thread_of S u ≡ Some row → row_bit stage_live (Some row) + dooms (effects_of before) u ≡ 1) → IsTurn script before (entry_for place t S d) (perform t d.moves S)
+module _ (script : Script) (before : List Entry) (S : State) (place : ℕ) (t : ObjNo) (rows : AreRows script S)
+    (book : Book script before S) (looked : Looked script before S) where
+  pub turn-sends : {k : Kinds} (d : Decision) → IsRegular k script S t d
+      → IsSending S t (instruction_in script before t) d → Doing script S t d.moves
+      → ((u : ObjNo) (row : ThreadRow) → thread_of S u ≡ Some row
+      → row_bit stage_live (Some row) + dooms (effects_of before) u ≡ 1)
+      → IsTurn script before (entry_for place t S d) (perform t d.moves S)
   turn-sends d regular is does fate = record {
     book = record {
       served = served-doing script before S place t rows book d does changing regular is.closed (λ v some. let none = is.detached v in absurd (omega arith));
-      letters = letters-more script before S T e book.letters (λ p among. keeps.unlinked p.session) post p.posts p.more by p.next p.none p.unfinished refl refl (book.slotted.servers is.row.session ∙ linked) linked (keeps.unlinked is.row.session) keeps.unended unended way undoomed slots sends;
+      letters =
+          letters-more script before S T e book.letters
+          (λ p among. keeps.unlinked p.session) post p.posts p.more by p.next p.none p.unfinished refl refl
+          (book.slotted.servers is.row.session ∙ linked) linked
+          (keeps.unlinked is.row.session) keeps.unended unended way undoomed slots sends;
       slotted = slotted-keeps script before e S T book.slotted keeps.unlinked keeps.slots p.pool;
       fresh = fresh-on before e book.fresh (λ makes. keeps.unowned (regular.making makes));
     };
@@ -124,7 +156,11 @@ module _ (script : Script) (before : List Entry) (S : State) (place : ℕ) (t : 
       };
       finish = λ m some. let a = p.unfinished m in absurd (omega arith);
       end = λ v some. let a = keeps.unended v in absurd (omega arith);
-      send = λ asked. sent-answer script before S place t d is.row.session is.row.server rows book looked is.linked is.accepting (let a = ap accepts p.told in let b = p.none in omega arith) (subst (λ (x : Slots). IsAnswered S t (instruction_in script before t) is.row.session x d) is.of_session (is.send asked));
+      send =
+          λ asked. sent-answer script before S place t d is.row.session is.row.server rows book looked is.linked
+          is.accepting (let a = ap accepts p.told in let b = p.none in omega arith)
+          (subst (λ (x : Slots). IsAnswered S t (instruction_in script before t) is.row.session x d) is.of_session
+          (is.send asked));
     };
   }
     where
@@ -141,16 +177,26 @@ module _ (script : Script) (before : List Entry) (S : State) (place : ℕ) (t : 
       serves front = let a = total-append serving_bit front (Messages (Accept is.slots is.row) ∷ is.back) in omega arith
 
       goes : IsGoing script S t ms
-      goes = subst (IsGoing script S t) is.moves (going script S t d.moves does (let a = ap (total serving_bit) is.moves in let b = serves is.front in omega arith))
+      goes =
+          subst (IsGoing script S t) is.moves (going script S t d.moves does
+          (let a = ap (total serving_bit) is.moves in let b = serves is.front in omega arith))
 
       changing : total changing_bit d.moves ≡ 0
-      changing = let a = ap (total changing_bit) is.moves in let b = total-append changing_bit is.front (Messages (Accept is.slots is.row) ∷ is.back) in let c = changing-none is.front is.quiet in let f = is.changing in omega arith
+      changing =
+          let a = ap (total changing_bit) is.moves in
+          let b = total-append changing_bit is.front (Messages (Accept is.slots is.row) ∷ is.back) in
+          let c = changing-none is.front is.quiet in
+          let f = is.changing in
+          omega arith
 
       keeps : Keeps S T t d.moves e.effects
       keeps = keeps-doing script S t d.moves does rows (served-made script (reading before) S book.served) changing
 
       p : IsPosted S T t is.slots is.row e.effects
-      p = subst (λ (l : List Move). IsPosted S (perform t l S) t is.slots is.row (tell t l S)) (sym is.moves) (posted-moves script S t is.front is.back is.slots is.row goes.each is.silent (message-none is.front is.quiet) is.still)
+      p =
+          subst (λ (l : List Move). IsPosted S (perform t l S) t is.slots is.row (tell t l S)) (sym is.moves)
+          (posted-moves script S t is.front is.back is.slots is.row goes.each is.silent
+          (message-none is.front is.quiet) is.still)
 
       post : Post
       post = record { number = p.number; session = is.row.session; server = is.row.server; client = is.row.client; way = is.row.way; slots = is.slots }
@@ -172,7 +218,9 @@ module _ (script : Script) (before : List Entry) (S : State) (place : ℕ) (t : 
       accepting = closing-told-by script before S is.row.server row.0 book row.1 ∙ (sym (ap closes row.1) ∙ is.accepting)
 
       unended : ends (effects_of before) is.row.server ≡ 0
-      unended = zero_or (ends (effects_of before) is.row.server) (λ some. let so = book.served.ended is.row.server some in let not_so = is.accepting in absurd (cc))
+      unended =
+          zero_or (ends (effects_of before) is.row.server)
+          (λ some. let so = book.served.ended is.row.server some in let not_so = is.accepting in absurd (cc))
 
       way : status_by e.step (instruction_in script before is.row.client) ≡ status_of_way is.row.way
       way = ap (λ (u : ObjNo). status_by d.step (instruction_in script before u)) is.client ∙ is.way

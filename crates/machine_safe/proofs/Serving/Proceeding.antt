@@ -64,7 +64,9 @@ module _ (script : Script) (S : State) (t : ObjNo) (shaped : IsShaped script) (r
         → Proceeds (decision_of_task script S t row
         (work_or work (step_or_end (is_protected S.synchronization.nano t) (instruction script row))))
     proceeds-work [] e live going = proceeds-own (is_protected S.synchronization.nano t) (instruction script row) live going refl
-    proceeds-work (what ∷ rest) e live going = properly (proper-give script S rows t row what (fits-work {script = script} {S = S} {t = t} {row = row} what rest (record { rows = rows; is = here; going = going }) e).1)
+    proceeds-work (what ∷ rest) e live going = properly
+        (proper-give script S rows t row what (fits-work {script = script} {S = S} {t = t} {row = row} what rest
+        (record { rows = rows; is = here; going = going }) e).1)
 
     -- the calls of a queue
     called : (declared : Bool) (dfc : ℕ) → Proceeds (decision_of_task script S t row (if declared then RunDfc dfc else Bury dfc))
@@ -88,7 +90,10 @@ module _ (script : Script) (S : State) (t : ObjNo) (shaped : IsShaped script) (r
     proceeds-dying : (has : List Holding) → holdings S t row ≡ has → row.stage ≡ Doomed → is_returning row.part ≡ false
         → Proceeds (decision_of_task script S t row (dying_task has))
     proceeds-dying [] e doomed going = properly (proper-clean script S t row shaped (rows.references.threads.rows t.0 row here).declared)
-    proceeds-dying (what ∷ rest) e doomed going = properly (proper-give script S rows t row what (fits-give_up {script = script} {S = S} {t = t} {row = row} what rest (record { rows = rows; is = here; doomed = doomed; waits = awake script S t row here may going; going = going }) e).1)
+    proceeds-dying (what ∷ rest) e doomed going = properly
+        (proper-give script S rows t row what (fits-give_up {script = script} {S = S} {t = t} {row = row} what rest
+        (record { rows = rows; is = here; doomed = doomed; waits = awake script S t row here may going; going = going })
+        e).1)
 
     abbrev live_own : Option Task
     live_own = live_task row.role (next_call S.synchronization.deferred row.role) own_task

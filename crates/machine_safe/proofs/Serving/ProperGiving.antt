@@ -93,7 +93,8 @@ module _ (script : Script) (S : State) (rows : AreRows script S) where
       → Proper (finish S message code)
   proper-finish message code there over = (
     record { row = message; there = there; over = over },
-    proper-calm script S (close_refused message code) _ (proper-close_refused message code) (proper-reply_to message code (thread_of S message.row.client) there refl),
+    proper-calm script S (close_refused message code) _ (proper-close_refused message code)
+        (proper-reply_to message code (thread_of S message.row.client) there refl),
   )
 
   -- a thread gives up what it has

@@ -47,13 +47,15 @@ module _ (script : Script) (P : State → Type 0) (Q : Going → State → List 
   each-kept by S t (m ∷ ms) fits proper few s q =
       let one = sound-move script S t m fits.0 (omega arith) s in
       let w = weight-move script S t m fits.0 in
-      each-kept (onward by m) (moved t m S) t ms fits.1 proper.1 (omega arith) (sane-after script S (moved t m S) t (told m S) s one) (kept.moves by S t m ms s.rows fits.0 proper.0 q)
+      each-kept (onward by m) (moved t m S) t ms fits.1 proper.1 (omega arith)
+      (sane-after script S (moved t m S) t (told m S) s one) (kept.moves by S t m ms s.rows fits.0 proper.0 q)
 
   kept-act : (S : State) (t : ObjNo) → IsShaped script → AreRows script S
       → AreProper script (stepping S t) (decision_of script S t).moves → P S → P (act script S t).state
   unfolding act
   kept-act S t shaped rows proper p = of_action script S t (λ (ms : List Move). AreProper script (stepping S t) ms → P (perform t ms S)) shaped rows
-      (λ ms sane goes are. each-kept (stepping S t) S t ms goes.each are goes.few sane (kept.begins S t ms p)) (λ what rest sane owes are. kept.pays S t what rows p) (λ are. p) proper
+      (λ ms sane goes are. each-kept (stepping S t) S t ms goes.each are goes.few sane (kept.begins S t ms p))
+      (λ what rest sane owes are. kept.pays S t what rows p) (λ are. p) proper
 
   kept-done : (S : State) (plan : Plan) → AreRows script S
       → Goes script supervisor S (decision_by script supervisor S plan).moves

@@ -88,37 +88,51 @@ burial-called script role shaped declared few = by role declared few
     by (Declared k) declared few = let below = ltb-true ((65 + length script.queues + k) % 256) 64 few in let all = shaped.count in absurd (omega arith)
 
 -- whose handle is next
-pub handle-holder : (local : Bool) (holder : ℕ → Holder) (table : List HandleSlot) (handle : NewHandle) → next_handle local holder table ≡ Some handle → handle.holder ≡ holder (free_index table)
+pub handle-holder : (local : Bool) (holder : ℕ → Holder) (table : List HandleSlot) (handle : NewHandle)
+    → next_handle local holder table ≡ Some handle → handle.holder ≡ holder (free_index table)
 handle-holder local holder table handle = by (is_full table)
   where
-    by : (full : Bool) → (if full then None else Some (record { holder = holder (free_index table); number = new_handle local table })) ≡ Some handle → handle.holder ≡ holder (free_index table)
+    by : (full : Bool) → (if full then None else Some
+        (record { holder = holder (free_index table); number = new_handle local table })) ≡ Some handle → handle.holder
+        ≡ holder (free_index table)
     by true e = absurd (cc)
-    by false e = let same : record { holder = holder (free_index table); number = new_handle local table } ≡ handle = cc in ap (λ (x : NewHandle). x.holder) (sym same)
+    by false e = let same : record { holder = holder (free_index table); number = new_handle local table }
+        ≡ handle = cc in ap (λ (x : NewHandle). x.holder) (sym same)
 
-pub made-in-process : (by : Going) (S : State) (p : ObjNo) (k : Kind) (handle : NewHandle) → is_kind kind.Server k ≡ false → is_kind kind.Thread k ≡ false → IsOfProcess by.0 by.1 p → process_handle S p ≡ Some handle → IsMadeBy by k handle.holder
-made-in-process by S p k handle server thread own is = subst (IsMadeBy by k) (sym (handle-holder false (InProcess p) (table_of S p) handle is)) (server, thread, own)
+pub made-in-process : (by : Going) (S : State) (p : ObjNo) (k : Kind) (handle : NewHandle)
+    → is_kind kind.Server k ≡ false → is_kind kind.Thread k ≡ false → IsOfProcess by.0 by.1 p
+    → process_handle S p ≡ Some handle → IsMadeBy by k handle.holder
+made-in-process by S p k handle server thread own is =
+    subst (IsMadeBy by k) (sym (handle-holder false (InProcess p) (table_of S p) handle is)) (server, thread, own)
 
-pub made-in-thread : (by : Going) (S : State) (t : ObjNo) (k : Kind) (handle : NewHandle) → is_kind kind.Server k ≡ false → is_kind kind.Thread k ≡ false → thread_handle S t ≡ Some handle → IsMadeBy by k handle.holder
+pub made-in-thread : (by : Going) (S : State) (t : ObjNo) (k : Kind) (handle : NewHandle)
+    → is_kind kind.Server k ≡ false → is_kind kind.Thread k ≡ false → thread_handle S t ≡ Some handle
+    → IsMadeBy by k handle.holder
 made-in-thread by S t k handle server thread is = subst (IsMadeBy by k) (sym (handle-holder true (InThread t) (table_of S t) handle is)) (server, thread)
 
-pub given-in-process : (by : Going) (S : State) (p : ObjNo) (handle : NewHandle) → IsOfProcess by.0 by.1 p → process_handle S p ≡ Some handle → MayGive by handle.holder
+pub given-in-process : (by : Going) (S : State) (p : ObjNo) (handle : NewHandle) → IsOfProcess by.0 by.1 p
+    → process_handle S p ≡ Some handle → MayGive by handle.holder
 given-in-process by S p handle own is = subst (MayGive by) (sym (handle-holder false (InProcess p) (table_of S p) handle is)) own
 
 pub given-in-thread : (by : Going) (S : State) (t : ObjNo) (handle : NewHandle) → thread_handle S t ≡ Some handle → MayGive by handle.holder
 given-in-thread by S t handle is = subst (MayGive by) (sym (handle-holder true (InThread t) (table_of S t) handle is)) tt
 
 -- signals of fast semaphores, and logons
-pub proper-signal : (script : Script) (by : Going) (u : ObjNo) (what : Waiting) (ms : List Move) → awaited_by (thread_of by.1 u) ≡ message_awaited what → IsProper script by (signal_move u what) ms
+pub proper-signal : (script : Script) (by : Going) (u : ObjNo) (what : Waiting) (ms : List Move)
+    → awaited_by (thread_of by.1 u) ≡ message_awaited what → IsProper script by (signal_move u what) ms
 proper-signal script by u waiting.Fast ms at = wakes-other by u at
 proper-signal script by u what ms at = tt
 
-pub proper-logon : (script : Script) (by : Going) (t u : ObjNo) (s : ℕ) (exit : Option Exit) (stage : Stage) (ms : List Move) → IsProper script by (logon_move t u s exit stage) ms
+pub proper-logon : (script : Script) (by : Going) (t u : ObjNo) (s : ℕ) (exit : Option Exit) (stage : Stage)
+    (ms : List Move)
+    → IsProper script by (logon_move t u s exit stage) ms
 proper-logon script by t u s exit Cleaned ms = tt
 proper-logon script by t u s exit Buried ms = tt
 proper-logon script by t u s exit stage ms = tt
 
 -- moves that are proper with nobody that goes on, one behind the other
-pub proper-calm : (script : Script) (S : State) (ms ns : List Move) → AreProper script (resting S) ms → AreProper script (resting S) ns → AreProper script (resting S) (ms ++ ns)
+pub proper-calm : (script : Script) (S : State) (ms ns : List Move) → AreProper script (resting S) ms
+    → AreProper script (resting S) ns → AreProper script (resting S) (ms ++ ns)
 proper-calm script S ms ns one other = proper-then script (resting S) ms ns (nobody-joined script S None ns other) one other
 
 -- waits that are for no message
@@ -135,9 +149,12 @@ wakes-where script by u true may = (may refl, tt)
 wakes-where script by u false may = tt
 
 -- who waits for a message of a server is woken behind the acceptance of one
-pub proper-wake_row : (script : Script) (S : State) (o u : ObjNo) (row : Option ThreadRow) → thread_of S u ≡ row → AreProper script (None, S, Some o) (wake_row o u row)
+pub proper-wake_row : (script : Script) (S : State) (o u : ObjNo) (row : Option ThreadRow) → thread_of S u ≡ row
+    → AreProper script (None, S, Some o) (wake_row o u row)
 proper-wake_row script S o u None is = tt
-proper-wake_row script S o u (Some row) is = wakes-where script (None, S, Some o) u (is_receiving o row.waiting) (λ on x waits. sym (receiver-is o row.waiting on) ∙ (sym (ap awaited_by is) ∙ waits))
+proper-wake_row script S o u (Some row) is =
+    wakes-where script (None, S, Some o) u (is_receiving o row.waiting)
+    (λ on x waits. sym (receiver-is o row.waiting on) ∙ (sym (ap awaited_by is) ∙ waits))
 
 pub proper-wake : (script : Script) (S : State) (o : ObjNo) (owner : Option ObjNo) → AreProper script (None, S, Some o) (wake_receiver S o owner)
 proper-wake script S o None = tt
@@ -155,7 +172,8 @@ open-accepts S s o e = by (server_of S.serving.servers s) e
     by None e = absurd (cc)
     by (Some v) e = accepting v (is_closing S.serving.servers v) refl e
 
-pub proper-post : (script : Script) (S : State) (t s o : ObjNo) (function : ℤ) (args : List Arg) (way : Way) → is_closing S.serving.servers o ≡ false → AreProper script (resting S) (post S t s o function args way)
+pub proper-post : (script : Script) (S : State) (t s o : ObjNo) (function : ℤ) (args : List Arg) (way : Way)
+    → is_closing S.serving.servers o ≡ false → AreProper script (resting S) (post S t s o function args way)
 proper-post script S t s o function args way accepting = (accepting, proper-wake script S o (owner_of S.serving.servers o))
 
 -- who waited for a message before the operations of a body does so still
@@ -165,7 +183,9 @@ AwaitStill S T = (u o : ObjNo) → awaited_by (thread_of S u) ≡ Some o → awa
 still-woken : (S T : State) (t u : ObjNo) → awaited_by (thread_of T u) ≡ None → AwaitStill S T → AwaitStill S (moved t (move.Wake u) T)
 still-woken S T t u none still v o is =
     let now = still v o is in
-    ap awaited_by (row-other T.references.threads u (with_waiting waiting.Nothing) v.0 (λ at. let same = ap (λ (x : ObjNo). awaited_by (thread_of T x)) (same_object u v at) in absurd (cc))) ∙ now
+    ap awaited_by (row-other T.references.threads u (with_waiting waiting.Nothing) v.0
+    (λ at. let same = ap (λ (x : ObjNo). awaited_by (thread_of T x)) (same_object u v at) in absurd (cc)))
+    ∙ now
 
 still-other : (S T : State) (u : ObjNo) → awaited_by (thread_of T u) ≡ None → AwaitStill S T → MayWake (resting S) u
 still-other S T u none still o is = let now = still u o is in absurd (cc)
@@ -196,14 +216,21 @@ module _ (script : Script) (S : State) where
   -- the close of a handle
   proper-disconnect : (t s : ObjNo) (server : Option ObjNo) → connected_to S s ≡ server → Proper (disconnect S t s server)
   proper-disconnect t s None e = tt
-  proper-disconnect t s (Some o) e = (tt, proper-post script S t s o disconnects no_args Disconnect (open-accepts S s o (connected (was_opened (session_at S.serving.servers s)) e)))
+  proper-disconnect t s (Some o) e = (
+    tt,
+    proper-post script S t s o disconnects no_args Disconnect
+        (open-accepts S s o (connected (was_opened (session_at S.serving.servers s)) e)),
+  )
     where
       connected : (b : Bool) → (if b then open_server S s else None) ≡ Some o → open_server S s ≡ Some o
       connected true e = e
       connected false e = absurd (cc)
 
-  proper-close_or : (t : ObjNo) (h : Holder) (o : ObjNo) (server : Option ServerRow) → is_handle h ≡ true → Proper (close_or o server (disconnect S t o (connected_to S o)) ++ move.Lose h o ∷ [])
-  proper-close_or t h o None handle = proper-calm script S (disconnect S t o (connected_to S o)) (move.Lose h o ∷ []) (proper-disconnect t o (connected_to S o) refl) (tt, tt)
+  proper-close_or : (t : ObjNo) (h : Holder) (o : ObjNo) (server : Option ServerRow) → is_handle h ≡ true
+      → Proper (close_or o server (disconnect S t o (connected_to S o)) ++ move.Lose h o ∷ [])
+  proper-close_or t h o None handle =
+      proper-calm script S (disconnect S t o (connected_to S o)) (move.Lose h o ∷ [])
+      (proper-disconnect t o (connected_to S o) refl) (tt, tt)
   proper-close_or t h o (Some server) handle = ((handle, refl), (tt, tt))
 
   pub proper-close : (t : ObjNo) (h : Holder) (o : ObjNo) → is_handle h ≡ true → Proper (close_moves S t h o)
@@ -213,13 +240,16 @@ module _ (script : Script) (S : State) where
   abbrev IsOf : ObjNo → State → List Move → Type 0
   IsOf t T ms = Proper ms × AwaitStill S (perform t ms T)
 
-  signalled : (t u : ObjNo) (T : State) (what : Waiting) → awaited_by (thread_of T u) ≡ message_awaited what → AwaitStill S T → IsOf t T (signal_move u what ∷ [])
+  signalled : (t u : ObjNo) (T : State) (what : Waiting) → awaited_by (thread_of T u) ≡ message_awaited what
+      → AwaitStill S T → IsOf t T (signal_move u what ∷ [])
   signalled t u T waiting.Fast at still = ((still-other S T u at still, tt), still-woken S T t u at still)
   signalled t u T what at still = ((tt, tt), still)
 
   signalled-row : (t u : ObjNo) (T : State) (row : Option ThreadRow) → thread_of T u ≡ row → AwaitStill S T → IsOf t T (signal_row u row)
   signalled-row t u T None is still = (tt, still)
-  signalled-row t u T (Some row) is still = if_cases (IsOf t T) (is_live row.stage) _ _ (λ _. signalled t u T row.waiting (ap awaited_by is) still) (λ _. (tt, still))
+  signalled-row t u T (Some row) is still =
+      if_cases (IsOf t T) (is_live row.stage) _ _ (λ _. signalled t u T row.waiting (ap awaited_by is) still)
+      (λ _. (tt, still))
 
   signalled-object : (t : ObjNo) (T : State) (found : Option ObjNo) → AwaitStill S T → IsOf t T (signal_object T found)
   signalled-object t T None still = (tt, still)
@@ -228,23 +258,29 @@ module _ (script : Script) (S : State) where
   pub ended : (t u : ObjNo) (X T : State) (s : ℕ) (row : Option ThreadRow) → thread_of T u ≡ row → AwaitStill S T → IsOf t T (end_wait X u s row)
   ended t u X T s None is still = (tt, still)
   ended t u X T s (Some row) is still = if_cases (IsOf t T) (ends_wait X u s row.waiting) _ _
-      (λ on. let none : awaited_by (thread_of T u) ≡ None = ap awaited_by is ∙ ends-other X u s row.waiting on in ((still-other S T u none still, tt), still-woken S T t u none still)) (λ _. (tt, still))
+      (λ on. let none : awaited_by (thread_of T u) ≡ None = ap awaited_by is ∙ ends-other X u s row.waiting on in
+      ((still-other S T u none still, tt), still-woken S T t u none still)) (λ _. (tt, still))
 
   completed : (t : ObjNo) (T : State) (d : ℕ) (code : ℤ) (request : Option Request) → AwaitStill S T → IsOf t T (complete T d code request)
   completed t T d code None still = (tt, still)
   completed t T d code (Some request) still =
-      let rest = ended t request.thread T (moved t (move.Requests (Complete d request.thread request.status code)) T) request.status (thread_of T request.thread) refl still in
+      let rest = ended t request.thread T (moved t (move.Requests (Complete d request.thread request.status code)) T)
+      request.status (thread_of T request.thread) refl still in
       ((tt, rest.0), rest.1)
 
   queued : (t : ObjNo) (T : State) (item : Option ℕ) → AwaitStill S T → IsOf t T (queue_immediate item)
   queued t T None still = (tt, still)
   queued t T (Some item) still = ((tt, tt), still)
 
-  queued-to_move : (t : ObjNo) (T : State) (dfc : Option ℕ) → ((n : ℕ) → dfc ≡ Some n → is_some (slice_get script.dfcs n) ≡ true) → AwaitStill S T → IsOf t T (queue_to_move dfc)
+  queued-to_move : (t : ObjNo) (T : State) (dfc : Option ℕ)
+      → ((n : ℕ) → dfc ≡ Some n → is_some (slice_get script.dfcs n) ≡ true) → AwaitStill S T
+      → IsOf t T (queue_to_move dfc)
   queued-to_move t T None known still = (tt, still)
   queued-to_move t T (Some dfc) known still = ((known dfc refl, tt), still)
 
-  queued-call : (t : ObjNo) (T : State) (dfc : Option ℕ) → ((n : ℕ) → dfc ≡ Some n → is_some (slice_get script.dfcs n) ≡ true) → AwaitStill S T → IsOf t T (queue_call T dfc)
+  queued-call : (t : ObjNo) (T : State) (dfc : Option ℕ)
+      → ((n : ℕ) → dfc ≡ Some n → is_some (slice_get script.dfcs n) ≡ true) → AwaitStill S T
+      → IsOf t T (queue_call T dfc)
   queued-call t T None known still = (tt, still)
   queued-call t T (Some dfc) known still = (((λ few. known dfc refl), tt), still)
 
@@ -277,7 +313,9 @@ module _ (script : Script) (S : State) where
   proper-held t (Some f) = (tt, tt)
 
   pub proper-flush : (t : ObjNo) → Proper (flush S t).moves
-  proper-flush t = proper-calm script S (give_held t (held_by S.synchronization.nano t)) _ (proper-held t (held_by S.synchronization.nano t)) (tt, proper-doom_noted t (noted_of S t))
+  proper-flush t =
+      proper-calm script S (give_held t (held_by S.synchronization.nano t)) _
+      (proper-held t (held_by S.synchronization.nano t)) (tt, proper-doom_noted t (noted_of S t))
 
   pub proper-clean : (t : ObjNo) (row : ThreadRow) → IsShaped script → IsRole script row.role → Proper (clean script S t row).moves
   proper-clean t row shaped declared = (tt, (burial-called script row.role shaped declared, tt))

@@ -56,8 +56,12 @@ opened-kind : (script : Script) (old : ThreadRow) (i : Instr) (p : Option Part) 
     → instruction script old ≡ Some i → opening i p ≡ Some k
     → (asks i p ≡ true) × (kind_used i p ≡ Some k) × (is_opened k ≡ true)
 opened-kind script old (instr.Open j name x) (Some part.Do) k shaped at is =
-    let same : j ≡ k = cc in
-    (refl, ap Some same, subst (λ (z : Kind). is_opened z ≡ true) same (in_form (instr_form (instr.Open j name x)) (has_ranges script old (instr.Open j name x) shaped at)).0.0)
+    let same : j ≡ k = cc in (
+      refl,
+      ap Some same,
+      subst (λ (z : Kind). is_opened z ≡ true) same
+          (in_form (instr_form (instr.Open j name x)) (has_ranges script old (instr.Open j name x) shaped at)).0.0,
+    )
 opened-kind script old i p k shaped at is = absurd (cc)
 
 unserved : (k : Kind) (row : ObjectRow) → is_opened k ≡ true → is_kind k row.kind ≡ true → is_kind kind.Server row.kind ≡ false
@@ -89,7 +93,9 @@ opened-other script S t old i p k o shaped rows here at what uses met = by (obje
     by (Some row) is alive = (row, is, unserved k row of.2 (((met of.0).used k o of.1 uses).kind row is))
 
 -- what a step comes to
-module _ (script : Script) (S : State) (t : ObjNo) (old : ThreadRow) (i : Instr) (p : Option Part) (d : Decision) (shaped : IsShaped script) (rows : AreRows script S) (here : thread_of S t ≡ Some old) (at : instruction script old ≡ Some i) (met : IsMet S t old i p) where
+module _ (script : Script) (S : State) (t : ObjNo) (old : ThreadRow) (i : Instr) (p : Option Part) (d : Decision)
+    (shaped : IsShaped script) (rows : AreRows script S) (here : thread_of S t ≡ Some old)
+    (at : instruction script old ≡ Some i) (met : IsMet S t old i p) where
   course-proper : ((q : Part) → p ≡ Some q → has_step i q ≡ true) → Course script S t old i p d → AreProper script (stepping S t) d.moves
   course-proper straight (strays q e none) = let there = straight q e in absurd (cc)
   course-proper straight (answers code e told proper) = proper
@@ -99,7 +105,10 @@ module _ (script : Script) (S : State) (t : ObjNo) (old : ThreadRow) (i : Instr)
   course-proper straight (comes told proper back) = proper
   course-proper straight (goes to there silent told proper on) = proper
 
-module _ (script : Script) (S : State) (shaped : IsShaped script) (rows : AreRows script S) (straight : Facts script straying Nowhere S) (called : AreCalled script S.synchronization.deferred) (met : (t : ObjNo) (old : ThreadRow) (i : Instr) → thread_of S t ≡ Some old → old.stage ≡ Live → instruction script old ≡ Some i → IsMet S t old i old.part) where
+module _ (script : Script) (S : State) (shaped : IsShaped script) (rows : AreRows script S)
+    (straight : Facts script straying Nowhere S) (called : AreCalled script S.synchronization.deferred)
+    (met : (t : ObjNo) (old : ThreadRow) (i : Instr) → thread_of S t ≡ Some old → old.stage ≡ Live → instruction script old
+    ≡ Some i → IsMet S t old i old.part) where
   module _ (t : ObjNo) where
     abbrev Proper : Decision → Type 0
     Proper d = AreProper script (stepping S t) d.moves
@@ -120,11 +129,15 @@ module _ (script : Script) (S : State) (shaped : IsShaped script) (rows : AreRow
         → is_returning old.part ≡ false → instruction script old ≡ Some i
         → FitsAction (kind_of i old.part) script S t (step_of script S t old i old.part)
         → Proper (step_of script S t old i old.part)
-    step-proper old i is live going at fits = course-proper script S t old i old.part (step_of script S t old i old.part) shaped rows is at (met t old i is live at) (straight-of script S straight t old i is live at) (course script S t old is rows i old.part live at refl fits going)
+    step-proper old i is live going at fits = course-proper script S t old i old.part
+        (step_of script S t old i old.part) shaped rows is at (met t old i is live at)
+        (straight-of script S straight t old i is live at)
+        (course script S t old is rows i old.part live at refl fits going)
 
     plain-proper : (d : Decision) → FitsAction plain script S t d → Proceeding script S t d → Proper d
     plain-proper d fits (properly proper) = proper-any script t S None d.moves proper
-    plain-proper d fits (steps old i is live going at e) = subst Proper (sym e) (step-proper old i is live going at (subst (FitsAction (kind_of i old.part) script S t) e (fits-any fits)))
+    plain-proper d fits (steps old i is live going at e) = subst Proper (sym e)
+        (step-proper old i is live going at (subst (FitsAction (kind_of i old.part) script S t) e (fits-any fits)))
     plain-proper d fits (returns old i is back at e) = subst Proper (sym e) (return-proper old i)
 
     action-proper : Proper (decision_of script S t)

@@ -56,7 +56,14 @@ pub record Post : Type 0 where
   pub slots : Slots
 
 abbrev pub post_of : Message → Post
-post_of message = record { number = message.number; session = message.row.session; server = message.row.server; client = message.row.client; way = message.row.way; slots = message.slots }
+post_of message = record {
+  number = message.number;
+  session = message.row.session;
+  server = message.row.server;
+  client = message.row.client;
+  way = message.row.way;
+  slots = message.slots;
+}
 
 abbrev pub posts : State → List Post
 posts S = map post_of S.serving.messages.outstanding
@@ -80,28 +87,39 @@ quiet-then S T U es fs h g = record {
   finishes = λ m. let a = finishes-append es fs m in let b = h.finishes m in let c = g.finishes m in omega arith;
 }
 
-edited-posts : (m : MsgNo) (change : MsgRow → MsgRow) → ((x : Message) → post_of (record x { row = change x.row }) ≡ post_of x) → (xs : List Message) → map post_of (map (edited m change) xs) ≡ map post_of xs
+edited-posts : (m : MsgNo) (change : MsgRow → MsgRow)
+    → ((x : Message) → post_of (record x { row = change x.row }) ≡ post_of x) → (xs : List Message)
+    → map post_of (map (edited m change) xs) ≡ map post_of xs
 edited-posts m change keeps [] = refl
-edited-posts m change keeps (x ∷ xs) = ap (λ (p : Post). p ∷ map post_of (map (edited m change) xs)) (edited-value post_of m change x (keeps x)) ∙ ap (λ (l : List Post). post_of x ∷ l) (edited-posts m change keeps xs)
+edited-posts m change keeps (x ∷ xs) =
+    ap (λ (p : Post). p ∷ map post_of (map (edited m change) xs)) (edited-value post_of m change x (keeps x))
+    ∙ ap (λ (l : List Post). post_of x ∷ l) (edited-posts m change keeps xs)
 
-quiet-take : (r : MessageRows) (next : Option MsgNo) → (map post_of (taken r next).outstanding ≡ map post_of r.outstanding) × ((taken r next).accepted ≡ r.accepted) × ((taken r next).pool ≡ r.pool)
+quiet-take : (r : MessageRows) (next : Option MsgNo)
+    → (map post_of (taken r next).outstanding ≡ map post_of r.outstanding) × ((taken r next).accepted ≡ r.accepted)
+    × ((taken r next).pool ≡ r.pool)
 quiet-take r None = (refl, refl, refl)
 quiet-take r (Some m) = (edited-posts m taken_row (λ x. refl) r.outstanding, refl, refl)
 
 -- a piece of a copy leaves them too, but for how many bytes a descriptor has
-quiet-copy : (m : CopyMove) (threads : List (Option ThreadRow)) (r : MessageRows) → (map post_of (messages_copied m threads r).outstanding ≡ map post_of r.outstanding) × ((messages_copied m threads r).pool ≡ r.pool)
+quiet-copy : (m : CopyMove) (threads : List (Option ThreadRow)) (r : MessageRows)
+    → (map post_of (messages_copied m threads r).outstanding ≡ map post_of r.outstanding)
+    × ((messages_copied m threads r).pool ≡ r.pool)
 quiet-copy (Read job) threads r = (refl, refl)
 quiet-copy (Write job) threads r = by (write_refusal (ends_of threads r job) job) (nat_lt (done_after (write_size job) job.done) (write_size job))
   where
     after : Option Piece → Bool → MessageRows
     after refusal goes_on = unless_refused refusal r (if goes_on then r else after_set_length r job.m job.arg (job.offset + job.len))
 
-    by : (refusal : Option Piece) (goes_on : Bool) → (map post_of (after refusal goes_on).outstanding ≡ map post_of r.outstanding) × ((after refusal goes_on).pool ≡ r.pool)
+    by : (refusal : Option Piece) (goes_on : Bool)
+        → (map post_of (after refusal goes_on).outstanding ≡ map post_of r.outstanding)
+        × ((after refusal goes_on).pool ≡ r.pool)
     by (Some refusal) goes_on = (refl, refl)
     by None true = (refl, refl)
     by None false = (edited-posts job.m (resized job.arg (job.offset + job.len)) (λ x. refl) r.outstanding, refl)
 
-quiet-told : (S T : State) (effects : List Effect) → T.serving.messages ≡ S.serving.messages → accepts effects ≡ 0 → ((m : MsgNo) → finishes effects m ≡ 0) → IsQuiet S T effects
+quiet-told : (S T : State) (effects : List Effect) → T.serving.messages ≡ S.serving.messages → accepts effects ≡ 0
+    → ((m : MsgNo) → finishes effects m ≡ 0) → IsQuiet S T effects
 quiet-told S T effects same accepts finishes = record {
   posts = ap (λ (r : MessageRows). map post_of r.outstanding) same;
   accepted = ap (λ (r : MessageRows). r.accepted) same;
@@ -111,9 +129,13 @@ quiet-told S T effects same accepts finishes = record {
 }
 
 pub quiet-move : (script : Script) (S : State) (t : ObjNo) (m : Move) → FitsMove script t m S → message_bit m ≡ 0 → IsQuiet S (moved t m S) (told m S)
-quiet-move script S t (Messages (Take o)) fits none = let taken = quiet-take S.serving.messages (next_of S.serving.messages o) in record { posts = taken.0; accepted = taken.1; pool = taken.2; accepts = refl; finishes = λ m. refl }
+quiet-move script S t (Messages (Take o)) fits none =
+    let taken = quiet-take S.serving.messages (next_of S.serving.messages o) in
+    record { posts = taken.0; accepted = taken.1; pool = taken.2; accepts = refl; finishes = λ m. refl }
 quiet-move script S t (Messages m) fits none = absurd (omega arith)
-quiet-move script S t (Lose h o) fits none = quiet-told S (moved t (Lose h o) S) (told (Lose h o) S) refl (close-accepts (dies S o) h o) (close-finishes (dies S o) h o)
+quiet-move script S t (Lose h o) fits none =
+    quiet-told S (moved t (Lose h o) S) (told (Lose h o) S) refl (close-accepts (dies S o) h o)
+    (close-finishes (dies S o) h o)
 quiet-move script S t (Servers m) fits none = quiet-told S (moved t (Servers m) S) (server_told m) refl (server-accepts m) (server-finishes m)
   where
     server-accepts : (m : ServerMove) → accepts (server_told m) ≡ 0
@@ -125,23 +147,44 @@ quiet-move script S t (Servers m) fits none = quiet-told S (moved t (Servers m) 
     server-finishes (Join s o slots u) n = refl
     server-finishes (End o) n = refl
     server-finishes _ n = refl
-quiet-move script S t (Copies m) fits none = let same = quiet-copy m S.references.threads S.serving.messages in record { posts = same.0; accepted = copy_accepts m S.references.threads S.serving.messages; pool = same.1; accepts = refl; finishes = λ n. refl }
+quiet-move script S t (Copies m) fits none =
+    let same = quiet-copy m S.references.threads S.serving.messages in
+    record {
+      posts = same.0;
+      accepted = copy_accepts m S.references.threads S.serving.messages;
+      pool = same.1;
+      accepts = refl;
+      finishes = λ n. refl;
+    }
 quiet-move script S t (Pay what) fits none = absurd fits
 quiet-move script S t m fits none = let told = unserved-move script S t m fits refl in quiet-told S (moved t m S) _ refl told.accepts told.finishes
 
-pub quiet-each : (script : Script) (S : State) (t : ObjNo) (ms : List Move) → EachFits script t ms S → total message_bit ms ≡ 0 → IsQuiet S (perform t ms S) (tell t ms S)
+pub quiet-each : (script : Script) (S : State) (t : ObjNo) (ms : List Move) → EachFits script t ms S
+    → total message_bit ms ≡ 0 → IsQuiet S (perform t ms S) (tell t ms S)
 quiet-each script S t [] fits none = quiet-none S
-quiet-each script S t (m ∷ ms) fits none = quiet-then S (moved t m S) (perform t ms (moved t m S)) (told m S) (tell t ms (moved t m S)) (quiet-move script S t m fits.0 (omega arith)) (quiet-each script (moved t m S) t ms fits.1 (omega arith))
+quiet-each script S t (m ∷ ms) fits none =
+    quiet-then S (moved t m S) (perform t ms (moved t m S)) (told m S) (tell t ms (moved t m S))
+    (quiet-move script S t m fits.0 (omega arith)) (quiet-each script (moved t m S) t ms fits.1 (omega arith))
 
 -- what is owed is paid
 pub quiet-pay : (S : State) (t : ObjNo) (what : Owed) → IsQuiet S (moved t (Pay what) S) (told (Pay what) S)
 quiet-pay S t (Sweep o) = record { posts = refl; accepted = refl; pool = refl; accepts = refl; finishes = λ m. refl }
-quiet-pay S t (Close h o) = record { posts = refl; accepted = refl; pool = refl; accepts = close-accepts (dies S o) h o; finishes = λ m. close-finishes (dies S o) h o m }
+quiet-pay S t (Close h o) = record {
+  posts = refl;
+  accepted = refl;
+  pool = refl;
+  accepts = close-accepts (dies S o) h o;
+  finishes = λ m. close-finishes (dies S o) h o m;
+}
 
 -- no payment is a close of a handle
-pub pay-lost : (script : Script) (S : State) (t : ObjNo) (what : Owed) (rest : List Owed) (v : ObjNo) → AreRows script S → owed_of S t ≡ what ∷ rest → handles_lost (told (Pay what) S) v ≡ 0
+pub pay-lost : (script : Script) (S : State) (t : ObjNo) (what : Owed) (rest : List Owed) (v : ObjNo) → AreRows script S
+    → owed_of S t ≡ what ∷ rest → handles_lost (told (Pay what) S) v ≡ 0
 pay-lost script S t (Sweep o) rest v rows owes = refl
-pay-lost script S t (Close h o) rest v rows owes = close-lost (dies S o) h o v (by h (subst (EachMayOwe S.references.threads S.serving.servers S.serving.messages.accepted t.0) owes (rows.references.duties.own t.0)).0)
+pay-lost script S t (Close h o) rest v rows owes =
+    close-lost (dies S o) h o v (by h (subst
+    (EachMayOwe S.references.threads S.serving.servers S.serving.messages.accepted t.0) owes
+    (rows.references.duties.own t.0)).0)
   where
     by : (g : Holder) → MayOwe S.references.threads S.serving.servers S.serving.messages.accepted t.0 g o → is_handle g ≡ false
     by (InProcess p i) may = absurd may
@@ -164,7 +207,8 @@ lost-move script S t (Messages m) v fits = omega arith
 lost-move script S t (Pay what) v fits = absurd fits
 lost-move script S t m v fits = let none = (unserved-move script S t m fits refl).lost v in omega arith
 
-pub lost-each : (script : Script) (S : State) (t : ObjNo) (ms : List Move) (v : ObjNo) → EachFits script t ms S → handles_lost (tell t ms S) v ≤ total (lost_bit v) ms
+pub lost-each : (script : Script) (S : State) (t : ObjNo) (ms : List Move) (v : ObjNo) → EachFits script t ms S
+    → handles_lost (tell t ms S) v ≤ total (lost_bit v) ms
 lost-each script S t [] v fits = omega arith
 lost-each script S t (m ∷ ms) v fits =
     let a = lost-move script S t m v fits.0 in

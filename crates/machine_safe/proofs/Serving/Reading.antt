@@ -48,16 +48,27 @@ pub record IsSame (r q : Reading) : Type 0 where
   pub answers : (k : ℕ) → r.answers k ≡ q.answers k
 
 pub same-then : (r q p : Reading) → IsSame r q → IsSame q p → IsSame r p
-same-then r q p h g = record { owner = λ v. h.owner v ∙ g.owner v; closings = λ v. h.closings v ∙ g.closings v; effects = h.effects ∙ g.effects; answers = λ k. h.answers k ∙ g.answers k }
+same-then r q p h g = record {
+  owner = λ v. h.owner v ∙ g.owner v;
+  closings = λ v. h.closings v ∙ g.closings v;
+  effects = h.effects ∙ g.effects;
+  answers = λ k. h.answers k ∙ g.answers k;
+}
 
-or-where : (b : Bool) (x y z : Option ObjNo) → or_before (if b then x else None) (or_before (if b then y else None) z) ≡ or_before (if b then or_before x y else None) z
+or-where : (b : Bool) (x y z : Option ObjNo)
+    → or_before (if b then x else None) (or_before (if b then y else None) z)
+    ≡ or_before (if b then or_before x y else None) z
 or-where true x y z = sym (or-three x y z)
 or-where false x y z = refl
 
 -- more effects of one action, in two parts
-pub same-both : (r : Reading) (done : Step) (fs gs : List Effect) (n m : ℕ → ℕ) → IsSame (further (further r done fs n) done gs m) (further r done (fs ++ gs) (λ k. n k + m k))
+pub same-both : (r : Reading) (done : Step) (fs gs : List Effect) (n m : ℕ → ℕ)
+    → IsSame (further (further r done fs n) done gs m) (further r done (fs ++ gs) (λ k. n k + m k))
 same-both r done fs gs n m = record {
-  owner = λ v. or-where (makes_server done) (owner_told gs v) (owner_told fs v) (r.owner v) ∙ ap (λ (x : Option ObjNo). or_before (if makes_server done then x else None) (r.owner v)) (sym (owner_told-append fs gs v));
+  owner =
+      λ v. or-where (makes_server done) (owner_told gs v) (owner_told fs v) (r.owner v)
+      ∙ ap (λ (x : Option ObjNo). or_before (if makes_server done then x else None) (r.owner v))
+      (sym (owner_told-append fs gs v));
   closings = λ v. let a = handles_lost-append fs gs v in omega arith;
   effects = append_assoc r.effects fs gs;
   answers = λ k. omega arith;
@@ -66,7 +77,10 @@ same-both r done fs gs n m = record {
 -- entries that stand first, and one behind them
 pub owner_in-append : (xs ys : List Entry) (v : ObjNo) → owner_in (xs ++ ys) v ≡ or_before (owner_in ys v) (owner_in xs v)
 owner_in-append [] ys v = sym (or-none (owner_in ys v))
-owner_in-append (x ∷ xs) ys v = ap (λ (o : Option ObjNo). or_before o (if makes_server x.step then owner_told x.effects v else None)) (owner_in-append xs ys v) ∙ or-three (owner_in ys v) (owner_in xs v) (if makes_server x.step then owner_told x.effects v else None)
+owner_in-append (x ∷ xs) ys v =
+    ap (λ (o : Option ObjNo). or_before o (if makes_server x.step then owner_told x.effects v else None))
+    (owner_in-append xs ys v)
+    ∙ or-three (owner_in ys v) (owner_in xs v) (if makes_server x.step then owner_told x.effects v else None)
 
 pub closings-append : (xs ys : List Entry) (v : ObjNo) → closings (xs ++ ys) v ≡ closings xs v + closings ys v
 closings-append xs ys v = ap (λ (l : List Effect). handles_lost l v) (effects-append xs ys) ∙ handles_lost-append (effects_of xs) (effects_of ys) v
@@ -78,10 +92,13 @@ answers-append (x ∷ xs) ys t = let r = answers-append xs ys t in omega arith
 pub effects-push : (before : List Entry) (e : Entry) → effects_of (before ++ e ∷ []) ≡ effects_of before ++ e.effects
 effects-push before e = effects-append before (e ∷ []) ∙ ap (λ (l : List Effect). effects_of before ++ l) (append-nil e.effects)
 
-pub same-entry : (before : List Entry) (e : Entry) (n : ℕ → ℕ) → ((k : ℕ) → n k ≡ answers (e ∷ []) (record { 0 = k })) → IsSame (further (reading before) e.step e.effects n) (reading (before ++ e ∷ []))
+pub same-entry : (before : List Entry) (e : Entry) (n : ℕ → ℕ) → ((k : ℕ) → n k ≡ answers (e ∷ []) (record { 0 = k }))
+    → IsSame (further (reading before) e.step e.effects n) (reading (before ++ e ∷ []))
 same-entry before e n counts = record {
   owner = λ v. sym (owner_in-append before (e ∷ []) v);
-  closings = λ v. let a = ap (λ (l : List Effect). handles_lost l v) (effects-push before e) in let b = handles_lost-append (effects_of before) e.effects v in omega arith;
+  closings =
+      λ v. let a = ap (λ (l : List Effect). handles_lost l v) (effects-push before e) in
+      let b = handles_lost-append (effects_of before) e.effects v in omega arith;
   effects = sym (effects-push before e);
   answers = λ k. let a = answers-append before (e ∷ []) (record { 0 = k }) in let b = counts k in omega arith;
 }

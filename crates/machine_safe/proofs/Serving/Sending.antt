@@ -73,7 +73,8 @@ open_is S s o e = by (server_of S.serving.servers s) e
         where_open false is e = let own : v ≡ o = cc in subst (λ (x : ObjNo). is_closing S.serving.servers x ≡ false) own is
 
 -- a receiver that wakes
-pub woken-quiet : (S : State) (o : ObjNo) (rest : List Move) → total serving_bit rest ≡ 0 → total serving_bit (wake_receiver S o (owner_of S.serving.servers o) ++ rest) ≡ 0
+pub woken-quiet : (S : State) (o : ObjNo) (rest : List Move) → total serving_bit rest ≡ 0
+    → total serving_bit (wake_receiver S o (owner_of S.serving.servers o) ++ rest) ≡ 0
 woken-quiet S o rest none =
     let wakes = (tame-wake {k = plain} S o (owner_of S.serving.servers o)).calm refl in
     let both = total-append serving_bit (wake_receiver S o (owner_of S.serving.servers o)) rest in omega arith
@@ -83,8 +84,16 @@ behind-quiet true t = refl
 behind-quiet false t = refl
 
 -- a sending whose moves are these: some before, that of the message, and a receiver that wakes
-pub sending : {S : State} {t : ObjNo} {at : Option Instr} (d : Decision) (front rest : List Move) (s o : ObjNo) (function : ℤ) (args : List Arg) (way : Way) → d.moves ≡ front ++ (Messages (Accept (slots_of S s) (new_row s o t function args way)) ∷ (wake_receiver S o (owner_of S.serving.servers o) ++ rest)) → tell t front S ≡ [] → total serving_bit front ≡ 0
-    → total changing_bit rest ≡ 0 → total message_bit rest ≡ 0 → open_server S s ≡ Some o → status_by d.step at ≡ status_of_way way → (is_some (status_of_way way) ≡ true → IsLiveThread S.references.threads t) → accepts_by d.step (status_of_way way) ≡ true → ClosesOthers S d → ((v : ObjNo) → total (detach_bit v) rest ≡ 0) → is_send d.step ≡ is_async way → (is_send d.step ≡ true → IsAnswered S t at s (slots_of S s) d) → IsSending S t at d
+pub sending : {S : State} {t : ObjNo} {at : Option Instr} (d : Decision) (front rest : List Move) (s o : ObjNo)
+    (function : ℤ) (args : List Arg) (way : Way)
+    → d.moves ≡ front ++ (Messages (Accept (slots_of S s) (new_row s o t function args way)) ∷
+    (wake_receiver S o (owner_of S.serving.servers o) ++ rest))
+    → tell t front S ≡ [] → total serving_bit front ≡ 0
+    → total changing_bit rest ≡ 0 → total message_bit rest ≡ 0 → open_server S s ≡ Some o → status_by d.step at
+    ≡ status_of_way way → (is_some (status_of_way way) ≡ true → IsLiveThread S.references.threads t)
+    → accepts_by d.step (status_of_way way) ≡ true → ClosesOthers S d → ((v : ObjNo) → total (detach_bit v) rest ≡ 0)
+    → is_send d.step ≡ is_async way → (is_send d.step ≡ true → IsAnswered S t at s (slots_of S s) d)
+    → IsSending S t at d
 sending {S = S} {t = t} d front rest s o function args way moves silent quiet changing still opens told live named closed detached asks sends =
     let wakes = wake_receiver S o (owner_of S.serving.servers o) in
     let calm = (tame-wake {k = plain} S o (owner_of S.serving.servers o)).calm refl in
@@ -118,7 +127,10 @@ sending {S = S} {t = t} d front rest s o function args way moves silent quiet ch
     }
 
 -- `send`
-deed-send_to : (S : State) (t : ObjNo) (at : Option Instr) (live : IsLiveThread S.references.threads t) (P : Decision → Type 0) (s : ObjNo) (x function y : ℕ) (args : Args) (server : Option ObjNo) → IsSendOver S t at s → at ≡ Some (instr.Send x function y args) → open_server S s ≡ server → OfEach S t at P → P (send_to S t s (pos function) y (args_of args) server)
+deed-send_to : (S : State) (t : ObjNo) (at : Option Instr) (live : IsLiveThread S.references.threads t)
+    (P : Decision → Type 0) (s : ObjNo) (x function y : ℕ) (args : Args) (server : Option ObjNo)
+    → IsSendOver S t at s → at ≡ Some (instr.Send x function y args) → open_server S s ≡ server → OfEach S t at P
+    → P (send_to S t s (pos function) y (args_of args) server)
 deed-send_to S t at live P s x function y args None over here e each = each.keeps _ (record {
   changing = refl;
   still = refl;
@@ -134,10 +146,19 @@ deed-send_to S t at live P s x function y args (Some o) over here e each = if_ca
       detaches = λ v some. absurd (omega arith);
       send = λ sends. record { session = s; over = over; by = inr (o, e, full, refl) };
     }))
-    (λ free. each.sends _ (sending (answer t (Of word.Send part.Do) (GoOn t part.Done ∷ Requests (SetPending t y) ∷ post S t s o (pos function) (args_of args) (Async y)) (pos 0)) (GoOn t part.Done ∷ Requests (SetPending t y) ∷ []) (Advance t ∷ []) s o (pos function) (args_of args) (Async y)
-    refl refl refl refl refl e (ap (λ (i : Option Instr). status_by (Of word.Send part.Do) i) here) (λ _. live) refl (λ v some. let wakes = lost-none v (wake_receiver S o (owner_of S.serving.servers o)) ((tame-wake {k = plain} S o (owner_of S.serving.servers o)).calm refl) in let rest = total-append (lost_bit v) (wake_receiver S o (owner_of S.serving.servers o)) (Advance t ∷ []) in absurd (omega arith)) (λ v. refl) refl (λ sends. record { over = over; answer = refl; free = free })))
+    (λ free. each.sends _ (sending (answer t (Of word.Send part.Do)
+    (GoOn t part.Done ∷ Requests (SetPending t y) ∷ post S t s o (pos function) (args_of args) (Async y)) (pos 0))
+    (GoOn t part.Done ∷ Requests (SetPending t y) ∷ []) (Advance t ∷ []) s o (pos function) (args_of args) (Async y)
+    refl refl refl refl refl e (ap (λ (i : Option Instr). status_by (Of word.Send part.Do) i) here) (λ _. live) refl
+    (λ v some. let wakes = lost-none v (wake_receiver S o (owner_of S.serving.servers o))
+    ((tame-wake {k = plain} S o (owner_of S.serving.servers o)).calm refl) in
+    let rest = total-append (lost_bit v) (wake_receiver S o (owner_of S.serving.servers o)) (Advance t ∷ []) in
+    absurd (omega arith)) (λ v. refl) refl (λ sends. record { over = over; answer = refl; free = free })))
 
-pub deed-send : (S : State) (t : ObjNo) (at : Option Instr) (live : IsLiveThread S.references.threads t) (P : Decision → Type 0) (row : ThreadRow) (x function y : ℕ) (args : Args) (p : Part) → thread_of S t ≡ Some row → at ≡ Some (instr.Send x function y args) → OfEach S t at P → P (send_step S t row x function y args (Some p))
+pub deed-send : (S : State) (t : ObjNo) (at : Option Instr) (live : IsLiveThread S.references.threads t)
+    (P : Decision → Type 0) (row : ThreadRow) (x function y : ℕ) (args : Args) (p : Part)
+    → thread_of S t ≡ Some row → at ≡ Some (instr.Send x function y args) → OfEach S t at P
+    → P (send_step S t row x function y args (Some p))
 deed-send S t at live P row x function y args part.Done is here each = calm each _ refl refl
 deed-send S t at live P row x function y args p is here each = by row.uses refl
   where
@@ -148,23 +169,42 @@ deed-send S t at live P row x function y args p is here each = by row.uses refl
         (λ _. deed-send_to S t at live P s x function y args (open_server S s) (record { here = ap at_send here; row = row; is = is; uses = e }) here refl each)
 
 -- `call`
-deed-call_to : (S : State) (t : ObjNo) (at : Option Instr) (live : IsLiveThread S.references.threads t) (P : Decision → Type 0) (s : ObjNo) (function : ℤ) (args : List Arg) (server : Option ObjNo) → status_by (Of word.Call part.Do) at ≡ Some status.Sync → open_server S s ≡ server → OfEach S t at P → P (call_to S t s function args server)
+deed-call_to : (S : State) (t : ObjNo) (at : Option Instr) (live : IsLiveThread S.references.threads t)
+    (P : Decision → Type 0) (s : ObjNo) (function : ℤ) (args : List Arg) (server : Option ObjNo)
+    → status_by (Of word.Call part.Do) at ≡ Some status.Sync → open_server S s ≡ server → OfEach S t at P
+    → P (call_to S t s function args server)
 deed-call_to S t at live P s function args None told e each = calm each _ refl refl
-deed-call_to S t at live P s function args (Some o) told e each = each.sends _ (sending (call_to S t s function args (Some o)) (GoOn t part.Done ∷ Wait t waiting.Reply ∷ []) [] s o function args Sync
-    (ap (λ (ms : List Move). GoOn t part.Done ∷ Wait t waiting.Reply ∷ Messages (Accept (slots_of S s) (new_row s o t function args Sync)) ∷ ms) (sym (append-nil (wake_receiver S o (owner_of S.serving.servers o))))) refl refl refl refl e told (λ _. live) refl (λ v some. let wakes = lost-none v (wake_receiver S o (owner_of S.serving.servers o)) ((tame-wake {k = plain} S o (owner_of S.serving.servers o)).calm refl) in let rest = total-append (lost_bit v) (wake_receiver S o (owner_of S.serving.servers o)) [] in absurd (omega arith)) (λ v. refl) refl (λ sends. absurd (cc)))
+deed-call_to S t at live P s function args (Some o) told e each =
+    each.sends _ (sending (call_to S t s function args (Some o))
+    (GoOn t part.Done ∷ Wait t waiting.Reply ∷ []) [] s o function args Sync
+    (ap (λ (ms : List Move). GoOn t part.Done ∷ Wait t waiting.Reply ∷ Messages
+    (Accept (slots_of S s) (new_row s o t function args Sync)) ∷ ms)
+    (sym (append-nil (wake_receiver S o (owner_of S.serving.servers o))))) refl refl refl refl e told (λ _. live) refl
+    (λ v some. let wakes = lost-none v (wake_receiver S o (owner_of S.serving.servers o))
+    ((tame-wake {k = plain} S o (owner_of S.serving.servers o)).calm refl) in
+    let rest = total-append (lost_bit v) (wake_receiver S o (owner_of S.serving.servers o)) [] in absurd (omega arith))
+    (λ v. refl) refl (λ sends. absurd (cc)))
 
-deed-call_do : (S : State) (t : ObjNo) (at : Option Instr) (live : IsLiveThread S.references.threads t) (P : Decision → Type 0) (function : ℤ) (args : List Arg) (uses : Option ObjNo) → status_by (Of word.Call part.Do) at ≡ Some status.Sync → OfEach S t at P → P (call_do S t function args uses)
+deed-call_do : (S : State) (t : ObjNo) (at : Option Instr) (live : IsLiveThread S.references.threads t)
+    (P : Decision → Type 0) (function : ℤ) (args : List Arg) (uses : Option ObjNo)
+    → status_by (Of word.Call part.Do) at ≡ Some status.Sync → OfEach S t at P → P (call_do S t function args uses)
 deed-call_do S t at live P function args None told each = calm each _ refl refl
 deed-call_do S t at live P function args (Some s) told each = if_cases P (is_some (held_by S.synchronization.nano t)) _ _
     (λ _. calm each _ refl refl)
     (λ _. deed-call_to S t at live P s function args (open_server S s) told refl each)
 
-pub deed-call : (S : State) (t : ObjNo) (at : Option Instr) (live : IsLiveThread S.references.threads t) (P : Decision → Type 0) (row : ThreadRow) (x function : ℕ) (args : Args) (p : Part) → at ≡ Some (instr.Call x function args) → OfEach S t at P → P (call_step S t row x function args (Some p))
-deed-call S t at live P row x function args part.Do here each = deed-call_do S t at live P (pos function) (args_of args) row.uses (ap (λ (i : Option Instr). status_by (Of word.Call part.Do) i) here) each
+pub deed-call : (S : State) (t : ObjNo) (at : Option Instr) (live : IsLiveThread S.references.threads t)
+    (P : Decision → Type 0) (row : ThreadRow) (x function : ℕ) (args : Args) (p : Part)
+    → at ≡ Some (instr.Call x function args) → OfEach S t at P → P (call_step S t row x function args (Some p))
+deed-call S t at live P row x function args part.Do here each =
+    deed-call_do S t at live P (pos function) (args_of args) row.uses
+    (ap (λ (i : Option Instr). status_by (Of word.Call part.Do) i) here) each
 deed-call S t at live P row x function args _ here each = calm each _ refl refl
 
 -- `connect`
-deed-made_session : (S : State) (t : ObjNo) (at : Option Instr) (P : Decision → Type 0) (o : ObjNo) (slots : Slots) (handle : Option NewHandle) → slots_of_connect at ≡ Some slots → OfEach S t at P → P (make_session t o slots (next_object S) handle)
+deed-made_session : (S : State) (t : ObjNo) (at : Option Instr) (P : Decision → Type 0) (o : ObjNo) (slots : Slots)
+    (handle : Option NewHandle)
+    → slots_of_connect at ≡ Some slots → OfEach S t at P → P (make_session t o slots (next_object S) handle)
 deed-made_session S t at P o slots None here each = calm each _ refl refl
 deed-made_session S t at P o slots (Some handle) here each = each.joins _ (record {
   server = o;
@@ -179,7 +219,9 @@ deed-made_session S t at P o slots (Some handle) here each = each.joins _ (recor
   unsent = refl;
 })
 
-deed-connect_to : (S : State) (t : ObjNo) (at : Option Instr) (P : Decision → Type 0) (slots : Slots) (o : ObjNo) (server : Option ServerRow) → slots_of_connect at ≡ Some slots → OfEach S t at P → P (connect_to S t slots o server)
+deed-connect_to : (S : State) (t : ObjNo) (at : Option Instr) (P : Decision → Type 0) (slots : Slots) (o : ObjNo)
+    (server : Option ServerRow)
+    → slots_of_connect at ≡ Some slots → OfEach S t at P → P (connect_to S t slots o server)
 deed-connect_to S t at P slots o None here each = calm each _ refl refl
 deed-connect_to S t at P slots o (Some server) here each = if_cases P server.is_closing _ _
     (λ _. calm each _ refl refl)
@@ -187,7 +229,9 @@ deed-connect_to S t at P slots o (Some server) here each = if_cases P server.is_
     (λ _. calm each _ refl refl)
     (λ _. deed-made_session S t at P o slots (thread_handle S t) here each))
 
-deed-connect_make : (S : State) (t : ObjNo) (at : Option Instr) (P : Decision → Type 0) (slots : Slots) (uses : Option ObjNo) → slots_of_connect at ≡ Some slots → OfEach S t at P → P (connect_make S t slots uses)
+deed-connect_make : (S : State) (t : ObjNo) (at : Option Instr) (P : Decision → Type 0) (slots : Slots)
+    (uses : Option ObjNo)
+    → slots_of_connect at ≡ Some slots → OfEach S t at P → P (connect_make S t slots uses)
 deed-connect_make S t at P slots None here each = calm each _ refl refl
 deed-connect_make S t at P slots (Some o) here each = deed-connect_to S t at P slots o (server_at S.serving.servers o) here each
 
@@ -205,7 +249,10 @@ lost-other t row handle s v some = same_is s v (let most = lost_most (holder_of 
     lost_most : (h : Holder) → lost_bit v (Lose h s) ≤ same s v
     lost_most h = if_cases (λ (n : ℕ). n ≤ same s v) (is_handle h) (same s v) 0 (λ _. omega arith) (λ _. omega arith)
 
-deed-failed : (S : State) (t : ObjNo) (at : Option Instr) (P : Decision → Type 0) (row : ThreadRow) (s : ObjNo) (code : ℤ) (p : Part) → server_at S.serving.servers s ≡ None → is_send (Of word.Connect p) ≡ false → OfEach S t at P → P (fail_connect t row p s code)
+deed-failed : (S : State) (t : ObjNo) (at : Option Instr) (P : Decision → Type 0) (row : ThreadRow) (s : ObjNo)
+    (code : ℤ) (p : Part)
+    → server_at S.serving.servers s ≡ None → is_send (Of word.Connect p) ≡ false → OfEach S t at P
+    → P (fail_connect t row p s code)
 deed-failed S t at P row s code p none unsent each = each.keeps _ (record {
   changing = let a = unchanged-handle t row row.found s in omega arith;
   still = refl;
@@ -214,25 +261,49 @@ deed-failed S t at P row s code p none unsent each = each.keeps _ (record {
   send = λ sends. absurd (cc);
 })
 
-deed-connecting : (S : State) (t : ObjNo) (at : Option Instr) (live : IsLiveThread S.references.threads t) (P : Decision → Type 0) (row : ThreadRow) (s : ObjNo) (server : Option ObjNo) → server_at S.serving.servers s ≡ None → status_by (Of word.Connect part.Send) at ≡ Some status.Sync → open_server S s ≡ server → OfEach S t at P → P (send_connect S t row s server)
+deed-connecting : (S : State) (t : ObjNo) (at : Option Instr) (live : IsLiveThread S.references.threads t)
+    (P : Decision → Type 0) (row : ThreadRow) (s : ObjNo) (server : Option ObjNo)
+    → server_at S.serving.servers s ≡ None → status_by (Of word.Connect part.Send) at ≡ Some status.Sync
+    → open_server S s ≡ server → OfEach S t at P → P (send_connect S t row s server)
 deed-connecting S t at live P row s None none told e each = deed-failed S t at P row s _ part.Send none refl each
-deed-connecting S t at live P row s (Some o) none told e each = each.sends _ (sending (send_connect S t row s (Some o)) (GoOn t part.Done ∷ Servers (SetOpen s true) ∷ Wait t waiting.Reply ∷ []) [] s o connects no_args Sync
-    (ap (λ (ms : List Move). GoOn t part.Done ∷ Servers (SetOpen s true) ∷ Wait t waiting.Reply ∷ Messages (Accept (slots_of S s) (new_row s o t connects no_args Sync)) ∷ ms) (sym (append-nil (wake_receiver S o (owner_of S.serving.servers o))))) refl refl refl refl e told (λ _. live) refl (λ v some. let wakes = lost-none v (wake_receiver S o (owner_of S.serving.servers o)) ((tame-wake {k = plain} S o (owner_of S.serving.servers o)).calm refl) in let rest = total-append (lost_bit v) (wake_receiver S o (owner_of S.serving.servers o)) [] in absurd (omega arith)) (λ v. refl) refl (λ sends. absurd (cc)))
+deed-connecting S t at live P row s (Some o) none told e each =
+    each.sends _ (sending (send_connect S t row s (Some o))
+    (GoOn t part.Done ∷ Servers (SetOpen s true) ∷ Wait t waiting.Reply ∷ []) [] s o connects no_args Sync
+    (ap (λ (ms : List Move). GoOn t part.Done ∷ Servers (SetOpen s true) ∷ Wait t waiting.Reply ∷ Messages
+    (Accept (slots_of S s) (new_row s o t connects no_args Sync)) ∷ ms)
+    (sym (append-nil (wake_receiver S o (owner_of S.serving.servers o))))) refl refl refl refl e told (λ _. live) refl
+    (λ v some. let wakes = lost-none v (wake_receiver S o (owner_of S.serving.servers o))
+    ((tame-wake {k = plain} S o (owner_of S.serving.servers o)).calm refl) in
+    let rest = total-append (lost_bit v) (wake_receiver S o (owner_of S.serving.servers o)) [] in absurd (omega arith))
+    (λ v. refl) refl (λ sends. absurd (cc)))
 
-deed-connect_send : (S : State) (t : ObjNo) (at : Option Instr) (live : IsLiveThread S.references.threads t) (P : Decision → Type 0) (row : ThreadRow) (session : Option ObjNo) → ((s : ObjNo) → session ≡ Some s → server_at S.serving.servers s ≡ None) → status_by (Of word.Connect part.Send) at ≡ Some status.Sync → OfEach S t at P → P (connect_send S t row session)
+deed-connect_send : (S : State) (t : ObjNo) (at : Option Instr) (live : IsLiveThread S.references.threads t)
+    (P : Decision → Type 0) (row : ThreadRow) (session : Option ObjNo)
+    → ((s : ObjNo) → session ≡ Some s → server_at S.serving.servers s ≡ None)
+    → status_by (Of word.Connect part.Send) at ≡ Some status.Sync → OfEach S t at P → P (connect_send S t row session)
 deed-connect_send S t at live P row None others told each = calm each _ refl refl
 deed-connect_send S t at live P row (Some s) others told each = if_cases P (is_some (held_by S.synchronization.nano t)) _ _
     (λ _. calm each _ refl refl)
     (λ _. deed-connecting S t at live P row s (open_server S s) (others s refl) told refl each)
 
-deed-connect_done : (S : State) (t : ObjNo) (at : Option Instr) (P : Decision → Type 0) (row : ThreadRow) (x : ℕ) (session : Option ObjNo) → ((s : ObjNo) → session ≡ Some s → server_at S.serving.servers s ≡ None) → OfEach S t at P → P (connect_done S t row x session)
+deed-connect_done : (S : State) (t : ObjNo) (at : Option Instr) (P : Decision → Type 0) (row : ThreadRow) (x : ℕ)
+    (session : Option ObjNo)
+    → ((s : ObjNo) → session ≡ Some s → server_at S.serving.servers s ≡ None) → OfEach S t at P
+    → P (connect_done S t row x session)
 deed-connect_done S t at P row x None others each = calm each _ refl refl
 deed-connect_done S t at P row x (Some s) others each = if_cases P (int_eq (reply_of S.synchronization.requests t) (pos 0)) _ _
     (λ _. calm each _ refl refl)
     (λ _. deed-failed S t at P row s _ part.Done (others s refl) refl each)
 
-pub deed-connect : (S : State) (t : ObjNo) (at : Option Instr) (live : IsLiveThread S.references.threads t) (P : Decision → Type 0) (row : ThreadRow) (name : List ℕ) (slots : Slots) (x : ℕ) (p : Part) → is_returning (Some p) ≡ false → (keeps_handle (Some (instr.Connect name slots x)) (Some p) ≡ true → (s : ObjNo) → session_made S t row ≡ Some s → server_at S.serving.servers s ≡ None) → at ≡ Some (instr.Connect name slots x) → OfEach S t at P → P (connect_step S t row name slots x (Some p))
+pub deed-connect : (S : State) (t : ObjNo) (at : Option Instr) (live : IsLiveThread S.references.threads t)
+    (P : Decision → Type 0) (row : ThreadRow) (name : List ℕ) (slots : Slots) (x : ℕ) (p : Part)
+    → is_returning (Some p) ≡ false
+    → (keeps_handle (Some (instr.Connect name slots x)) (Some p) ≡ true → (s : ObjNo) → session_made S t row ≡ Some s
+    → server_at S.serving.servers s ≡ None)
+    → at ≡ Some (instr.Connect name slots x) → OfEach S t at P → P (connect_step S t row name slots x (Some p))
 deed-connect S t at live P row name slots x part.Make going others here each = deed-connect_make S t at P slots row.uses (ap slots_of_connect here) each
-deed-connect S t at live P row name slots x part.Send going others here each = deed-connect_send S t at live P row (session_made S t row) (others refl) (ap (λ (i : Option Instr). status_by (Of word.Connect part.Send) i) here) each
+deed-connect S t at live P row name slots x part.Send going others here each =
+    deed-connect_send S t at live P row (session_made S t row) (others refl)
+    (ap (λ (i : Option Instr). status_by (Of word.Connect part.Send) i) here) each
 deed-connect S t at live P row name slots x part.Return going others here each = absurd (cc)
 deed-connect S t at live P row name slots x _ going others here each = deed-connect_done S t at P row x (session_made S t row) (others refl) each

@@ -54,7 +54,8 @@ pub record Served (script : Script) (r : Reading) (S : State) : Type 0 where
   pub unmade : (o : ObjNo) → length S.references.objects ≤ o.0 → r.closings o ≡ 0
   pub places : (k : ℕ) (row : ThreadRow) → get_or S.references.threads k None ≡ Some row → IsPlaced script r k row
   pub told_made : (s v : ObjNo) → server_told r.effects s ≡ Some v → s.0 < length S.references.objects
-  pub told_linked : (s v : ObjNo) → server_told r.effects s ≡ Some v → IsAlive (object_of S s) → (server_of S.serving.servers s ≡ Some v) ⊎ (is_closing S.serving.servers v ≡ true)
+  pub told_linked : (s v : ObjNo) → server_told r.effects s ≡ Some v → IsAlive (object_of S s)
+      → (server_of S.serving.servers s ≡ Some v) ⊎ (is_closing S.serving.servers v ≡ true)
 
 pub served-made : (script : Script) (r : Reading) (S : State) → Served script r S → AreMade S
 served-made script r S h o row is = (h.rows o row is).made
@@ -67,7 +68,11 @@ served-same script r q S same h = record {
       record {
         made = was.made;
         owner = sym (same.owner o) ∙ was.owner;
-        closing = was.closing ∙ (ap (λ (n : ℕ). nat_lt 0 n || is_doomed r.effects (r.owner o)) (same.closings o) ∙ (ap (λ (x : Option ObjNo). nat_lt 0 (q.closings o) || is_doomed r.effects x) (same.owner o) ∙ ap (λ (es : List Effect). nat_lt 0 (q.closings o) || is_doomed es (q.owner o)) same.effects));
+        closing =
+            was.closing
+            ∙ (ap (λ (n : ℕ). nat_lt 0 n || is_doomed r.effects (r.owner o)) (same.closings o)
+            ∙ (ap (λ (x : Option ObjNo). nat_lt 0 (q.closings o) || is_doomed r.effects x) (same.owner o)
+            ∙ ap (λ (es : List Effect). nat_lt 0 (q.closings o) || is_doomed es (q.owner o)) same.effects));
         owned = was.owned;
       };
   links = λ s o is. ap (λ (es : List Effect). server_told es s) (sym same.effects) ∙ h.links s o is;
@@ -134,7 +139,8 @@ module _ (script : Script) (r : Reading) (S T : State) (t : ObjNo) (ms : List Mo
       let count = old.closing ∙ closing-count r o w.old.owner old.owner in
       let owner : told_then.owner o ≡ Some row.owner = same-owner o ∙ (old.owner ∙ ap Some w.owner) in
       let none = closed o w.old w.was in
-      let more : dooms (r.effects ++ fs) row.owner ≡ dooms r.effects w.old.owner + dooms fs w.old.owner = ap (dooms (r.effects ++ fs)) (sym w.owner) ∙ dooms-append r.effects fs w.old.owner in
+      let more : dooms (r.effects ++ fs) row.owner ≡ dooms r.effects w.old.owner + dooms fs w.old.owner =
+      ap (dooms (r.effects ++ fs)) (sym w.owner) ∙ dooms-append r.effects fs w.old.owner in
       let number : told_then.closings o + dooms (r.effects ++ fs) row.owner ≡ r.closings o + dooms r.effects w.old.owner + dooms fs w.old.owner = omega arith in
       let still : row.is_closing ≡ false → w.old.is_closing ≡ false = λ not. opposite w.old.is_closing row.is_closing w.still not in
       record {
@@ -142,7 +148,9 @@ module _ (script : Script) (r : Reading) (S T : State) (t : ObjNo) (ms : List Mo
         owner = owner;
         closing = bit-is row.is_closing (told_then.closings o + dooms (r.effects ++ fs) row.owner)
             (λ so.
-            let more_than = positive w.old.is_closing (r.closings o + dooms r.effects w.old.owner) (dooms fs w.old.owner) count (λ not. let a = w.began so not in let b = closes w.old.owner in omega arith) in omega arith)
+            let more_than = positive w.old.is_closing (r.closings o + dooms r.effects w.old.owner)
+            (dooms fs w.old.owner) count (λ not. let a = w.began so not in let b = closes w.old.owner in omega arith) in
+            omega arith)
             (λ not.
             let zero = bit-none w.old.is_closing (r.closings o + dooms r.effects w.old.owner) count (still not) in
             let undoomed : dooms fs w.old.owner ≡ 0 = zero_or (dooms fs w.old.owner) (λ some.
@@ -152,7 +160,9 @@ module _ (script : Script) (r : Reading) (S T : State) (t : ObjNo) (ms : List Mo
             let now : closes_bit (Some row) ≡ true = ap closes_bit (sym is) ∙ closing in
             absurd (cc)) in omega arith)
             ∙ sym (closing-count told_then o row.owner owner);
-        owned = λ not. subst (λ (u : ObjNo). 0 < times_owned T.serving.owned u o) w.owner (subst (λ (l : List (List ObjNo)). 0 < times_owned l w.old.owner o) (sym k.owned) (old.owned (still not)));
+        owned =
+            λ not. subst (λ (u : ObjNo). 0 < times_owned T.serving.owned u o) w.owner
+            (subst (λ (l : List (List ObjNo)). 0 < times_owned l w.old.owner o) (sym k.owned) (old.owned (still not)));
       }
     where
       opposite : (a b : Bool) → (a ≡ true → b ≡ true) → b ≡ false → a ≡ false
@@ -165,9 +175,13 @@ module _ (script : Script) (r : Reading) (S T : State) (t : ObjNo) (ms : List Mo
   pub served-keeps : Served script told_then T
   served-keeps = record {
     rows = row-then;
-    links = λ s o is. server_told-append r.effects fs s ∙ (ap (λ (x : Option ObjNo). or_before x (server_told r.effects s)) (k.unlinked s) ∙ h.links s o (k.links s o is));
+    links =
+        λ s o is. server_told-append r.effects fs s
+        ∙ (ap (λ (x : Option ObjNo). or_before x (server_told r.effects s)) (k.unlinked s) ∙ h.links s o (k.links s o is));
     ended = λ o some. let a = ends-append r.effects fs o in let b = k.unended o in keeps-closing S T t ms fs o k (h.ended o (omega arith));
-    over = λ u o some. ap (λ (l : List (List ObjNo)). times_owned l u o) k.owned ∙ h.over u o (let a = ends-append r.effects fs o in let b = k.unended o in omega arith);
+    over =
+        λ u o some. ap (λ (l : List (List ObjNo)). times_owned l u o) k.owned
+        ∙ h.over u o (let a = ends-append r.effects fs o in let b = k.unended o in omega arith);
     made = λ u o is. elim (h.made u o (sym (same-owner o) ∙ is)) as (λ _. (0 < times_owned T.serving.owned u o) ⊎ (0 < ends (r.effects ++ fs) o)) [
       | inl owned ↦ inl (subst (λ (l : List (List ObjNo)). 0 < times_owned l u o) (sym k.owned) owned)
       | inr over ↦ inr (let a = ends-append r.effects fs o in omega arith)

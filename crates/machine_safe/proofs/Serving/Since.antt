@@ -22,14 +22,18 @@ abbrev pub AreFresh : List Entry → Type 0
 AreFresh before = (v t : ObjNo) → owner_in before v ≡ Some t → IsFresh before v t
 
 -- an entry more, which doesn't make the server, and one that does
-since-kept : (xs : List Entry) (e : Entry) (v : ObjNo) → owner_in (e ∷ []) v ≡ None → is_some (owner_in xs v) ≡ true → since (xs ++ e ∷ []) v ≡ since xs v ++ e ∷ []
+since-kept : (xs : List Entry) (e : Entry) (v : ObjNo) → owner_in (e ∷ []) v ≡ None → is_some (owner_in xs v) ≡ true
+    → since (xs ++ e ∷ []) v ≡ since xs v ++ e ∷ []
 since-kept [] e v none some = absurd (cc)
 since-kept (x ∷ xs) e v none some = by (is_some (owner_in xs v)) refl (λ more. since-kept xs e v none more)
   where
     same-owner : owner_in (xs ++ e ∷ []) v ≡ owner_in xs v
     same-owner = owner_in-append xs (e ∷ []) v ∙ ap (λ (o : Option ObjNo). or_before o (owner_in xs v)) none
 
-    by : (b : Bool) → is_some (owner_in xs v) ≡ b → (is_some (owner_in xs v) ≡ true → since (xs ++ e ∷ []) v ≡ since xs v ++ e ∷ []) → (if is_some (owner_in (xs ++ e ∷ []) v) then since (xs ++ e ∷ []) v else x ∷ xs ++ e ∷ []) ≡ (if b then since xs v else x ∷ xs) ++ e ∷ []
+    by : (b : Bool) → is_some (owner_in xs v) ≡ b
+        → (is_some (owner_in xs v) ≡ true → since (xs ++ e ∷ []) v ≡ since xs v ++ e ∷ [])
+        → (if is_some (owner_in (xs ++ e ∷ []) v) then since (xs ++ e ∷ []) v else x ∷ xs ++ e ∷ [])
+        ≡ (if b then since xs v else x ∷ xs) ++ e ∷ []
     by true is rest = ap (λ (b : Bool). if b then since (xs ++ e ∷ []) v else x ∷ xs ++ e ∷ []) (ap is_some same-owner ∙ is) ∙ rest is
     by false is rest = ap (λ (b : Bool). if b then since (xs ++ e ∷ []) v else x ∷ xs ++ e ∷ []) (ap is_some same-owner ∙ is)
 
@@ -40,18 +44,26 @@ some-first (Some o) b some = refl
 since-made : (xs : List Entry) (e : Entry) (v : ObjNo) → is_some (owner_in (e ∷ []) v) ≡ true → since (xs ++ e ∷ []) v ≡ e ∷ []
 since-made [] e v some = refl
 since-made (x ∷ xs) e v some =
-    ap (λ (b : Bool). if b then since (xs ++ e ∷ []) v else x ∷ xs ++ e ∷ []) (ap is_some (owner_in-append xs (e ∷ []) v) ∙ some-first (owner_in (e ∷ []) v) (owner_in xs v) some)
+    ap (λ (b : Bool). if b then since (xs ++ e ∷ []) v else x ∷ xs ++ e ∷ [])
+    (ap is_some (owner_in-append xs (e ∷ []) v) ∙ some-first (owner_in (e ∷ []) v) (owner_in xs v) some)
     ∙ since-made xs e v some
 
-fresh-at : (before : List Entry) (e : Entry) (v t : ObjNo) → AreFresh before → owner_in (e ∷ []) v ≡ None → owner_in (before ++ e ∷ []) v ≡ Some t → IsFresh (before ++ e ∷ []) v t
+fresh-at : (before : List Entry) (e : Entry) (v t : ObjNo) → AreFresh before → owner_in (e ∷ []) v ≡ None
+    → owner_in (before ++ e ∷ []) v ≡ Some t → IsFresh (before ++ e ∷ []) v t
 fresh-at before e v t h none owns =
-    let was : owner_in before v ≡ Some t = sym (ap (λ (o : Option ObjNo). or_before o (owner_in before v)) none) ∙ (sym (owner_in-append before (e ∷ []) v) ∙ owns) in
+    let was : owner_in before v ≡ Some t = sym (ap (λ (o : Option ObjNo). or_before o (owner_in before v)) none)
+    ∙ (sym (owner_in-append before (e ∷ []) v) ∙ owns) in
     let f = h v t was in
     let kept = since-kept before e v none (ap is_some was) in
     let told = effects-push before e in
     let later = effects-push (since before v) e in
     record {
-      closings = let a = closings-append before (e ∷ []) v in let b = closings-append (since before v) (e ∷ []) v in let c = f.closings in let d = ap (λ (l : List Entry). closings l v) kept in omega arith;
+      closings =
+          let a = closings-append before (e ∷ []) v in
+          let b = closings-append (since before v) (e ∷ []) v in
+          let c = f.closings in
+          let d = ap (λ (l : List Entry). closings l v) kept in
+          omega arith;
       ends =
           let a = ap (λ (l : List Effect). ends l v) told in
           let b = ends-append (effects_of before) e.effects v in
@@ -68,14 +80,18 @@ fresh-at before e v t h none owns =
           let k = f.dooms in omega arith;
     }
 
-pub fresh-on : (before : List Entry) (e : Entry) → AreFresh before → (makes_server e.step ≡ true → (v : ObjNo) → owner_told e.effects v ≡ None) → AreFresh (before ++ e ∷ [])
+pub fresh-on : (before : List Entry) (e : Entry) → AreFresh before
+    → (makes_server e.step ≡ true → (v : ObjNo) → owner_told e.effects v ≡ None) → AreFresh (before ++ e ∷ [])
 fresh-on before e h unowned v t owns = fresh-at before e v t h (by (makes_server e.step) refl) owns
   where
     by : (b : Bool) → makes_server e.step ≡ b → (if b then owner_told e.effects v else None) ≡ None
     by true is = unowned is v
     by false is = refl
 
-pub fresh-made : (before : List Entry) (e : Entry) → AreFresh before → ((v t : ObjNo) → owner_in (e ∷ []) v ≡ Some t → (closings before v ≡ 0) × (ends (effects_of before) v ≡ 0) × (dooms (effects_of before) t ≡ 0)) → AreFresh (before ++ e ∷ [])
+pub fresh-made : (before : List Entry) (e : Entry) → AreFresh before
+    → ((v t : ObjNo) → owner_in (e ∷ []) v ≡ Some t → (closings before v ≡ 0) × (ends (effects_of before) v ≡ 0)
+    × (dooms (effects_of before) t ≡ 0))
+    → AreFresh (before ++ e ∷ [])
 fresh-made before e h untold v t owns = by (owner_in (e ∷ []) v) refl
   where
     by : (x : Option ObjNo) → owner_in (e ∷ []) v ≡ x → IsFresh (before ++ e ∷ []) v t

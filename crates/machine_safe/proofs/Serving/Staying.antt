@@ -52,7 +52,9 @@ pub record IsMidst (C : Type 0) (u o : ObjNo) (on : Option ObjNo) (S : State) (l
   pub were : WereSent S.serving.messages M.serving.messages
   pub accepted : S.serving.messages.accepted ≤ M.serving.messages.accepted
   pub sent : last ≡ Some o → (0 < total (untaken_bit o) M.serving.messages.outstanding) × (is_closing S.serving.servers o ≡ false)
-  pub came : C → ((awaited_by (thread_of M u) ≡ Some o) × (awaited_by (thread_of S u) ≡ Some o)) ⊎ ((0 < total (untaken_bit o) M.serving.messages.outstanding) × (is_closing S.serving.servers o ≡ false))
+  pub came : C
+      → ((awaited_by (thread_of M u) ≡ Some o) × (awaited_by (thread_of S u) ≡ Some o))
+      ⊎ ((0 < total (untaken_bit o) M.serving.messages.outstanding) × (is_closing S.serving.servers o ≡ false))
 
 not-true : (b : Bool) → not b ≡ true → b ≡ false
 not-true true e = absurd (cc)
@@ -77,13 +79,17 @@ owner-row : (x : Option ServerRow) (u : ObjNo) → option_map (λ (row : ServerR
 owner-row None u e = absurd (cc)
 owner-row (Some row) u e = (row, refl, cc)
 
-module _ (script : Script) (C : Type 0) (u o : ObjNo) (on : Option ObjNo) (S : State) (t : ObjNo) (before : AreRows script S) (made : o.0 < length S.references.objects) (apart : on ≡ Some u → ⊥) (takes : (last : Option ObjNo) → IsTaking script (on, S, last) o → ⊥) where
+module _ (script : Script) (C : Type 0) (u o : ObjNo) (on : Option ObjNo) (S : State) (t : ObjNo)
+    (before : AreRows script S) (made : o.0 < length S.references.objects) (apart : on ≡ Some u → ⊥)
+    (takes : (last : Option ObjNo) → IsTaking script (on, S, last) o → ⊥) where
   abbrev Midst : Option ObjNo → State → Type 0
   Midst last M = IsMidst C u o on S last M
 
   module _ (last : Option ObjNo) (M : State) (rows : AreRows script M) (there : is_some (thread_of M u) ≡ true) where
     -- a handle of a server is closed by its owner
-    closes-apart : (x : ObjNo) (ms : List Move) → EachFits script t ms (moved t (Servers (Close x)) M) → LosesFirst x ms → OwnBefore (on, S, last) M (Servers (Close x) ∷ ms) → owner_of M.serving.servers o ≡ Some u → (t.0 ≡ u.0 → total going_bit ms ≡ 0) → o.0 ≡ x.0 → ⊥
+    closes-apart : (x : ObjNo) (ms : List Move) → EachFits script t ms (moved t (Servers (Close x)) M) → LosesFirst x ms
+        → OwnBefore (on, S, last) M (Servers (Close x) ∷ ms) → owner_of M.serving.servers o ≡ Some u
+        → (t.0 ≡ u.0 → total going_bit ms ≡ 0) → o.0 ≡ x.0 → ⊥
     closes-apart x [] fits loses q owner stays at = absurd loses
     closes-apart x (Lose h y ∷ ms) fits loses q owner stays at = by h loses.0 fits.0.1 fits.0.2 stays
       where
@@ -93,7 +99,8 @@ module _ (script : Script) (C : Type 0) (u o : ObjNo) (on : Option ObjNo) (S : S
         own : y ≡ o
         own = loses.1 ∙ same_object x o (sym at)
 
-        by : (g : Holder) → is_handle g ≡ true → Holds (moved t (Servers (Close x)) M) g y → IsOwn t g → (t.0 ≡ u.0 → going_bit (Lose g y) + total going_bit ms ≡ 0) → ⊥
+        by : (g : Holder) → is_handle g ≡ true → Holds (moved t (Servers (Close x)) M) g y → IsOwn t g
+            → (t.0 ≡ u.0 → going_bit (Lose g y) + total going_bit ms ≡ 0) → ⊥
         by (InProcess p i) handle holds mine stays =
             let owns = q.own.places p i o row.0 (holds.1 ∙ ap Some own) row.1 in
             let none : thread_of M u ≡ None = ap (λ (z : ObjNo). thread_of M z) (sym row.2 ∙ owns) ∙ holds.0 in
@@ -105,25 +112,38 @@ module _ (script : Script) (C : Type 0) (u o : ObjNo) (on : Option ObjNo) (S : S
     closes-apart x (m ∷ ms) fits loses q owner stays at = absurd loses
 
     -- the server stays as it is
-    server-move : (m : Move) (ms : List Move) → FitsMove script t m M → EachFits script t ms (moved t m M) → IsProper script (on, S, last) m ms → OwnBefore (on, S, last) M (m ∷ ms) → owner_of M.serving.servers o ≡ Some u → (t.0 ≡ u.0 → total going_bit (m ∷ ms) ≡ 0) → total (doomed_bit u) (m ∷ ms) ≡ 0 → SameServer o M.serving.servers (moved t m M).serving.servers
-    server-move (Lose h x) ms fits rest proper q owner stays undoomed = same-row o M.serving.servers (moved t (Lose h x) M).serving.servers (lost-server h M.serving.servers o)
+    server-move : (m : Move) (ms : List Move) → FitsMove script t m M → EachFits script t ms (moved t m M)
+        → IsProper script (on, S, last) m ms → OwnBefore (on, S, last) M (m ∷ ms) → owner_of M.serving.servers o ≡ Some u
+        → (t.0 ≡ u.0 → total going_bit (m ∷ ms) ≡ 0) → total (doomed_bit u) (m ∷ ms) ≡ 0
+        → SameServer o M.serving.servers (moved t m M).serving.servers
+    server-move (Lose h x) ms fits rest proper q owner stays undoomed = same-row o M.serving.servers
+        (moved t (Lose h x) M).serving.servers (lost-server h M.serving.servers o)
     server-move (Servers (Start x w)) ms fits rest proper q owner stays undoomed =
-        same-row o M.serving.servers (moved t (Servers (Start x w)) M).serving.servers (get_or-set_other M.serving.servers.servers x.0 o.0 (Some (record { owner = w; is_closing = false })) None (λ at. let next = ap (λ (z : ObjNo). z.0) fits.next in let long = q.long in absurd (omega arith)))
+        same-row o M.serving.servers (moved t (Servers (Start x w)) M).serving.servers
+        (get_or-set_other M.serving.servers.servers x.0 o.0 (Some (record { owner = w; is_closing = false })) None
+        (λ at. let next = ap (λ (z : ObjNo). z.0) fits.next in let long = q.long in absurd (omega arith)))
     server-move (Servers (Join s x slots w)) ms fits rest proper q owner stays undoomed =
         let number = made-number on S s.0 proper in
-        same-row o M.serving.servers (moved t (Servers (Join s x slots w)) M).serving.servers (get_or-set_other M.serving.servers.servers s.0 o.0 None None (λ at. absurd (omega arith)))
+        same-row o M.serving.servers (moved t (Servers (Join s x slots w)) M).serving.servers
+        (get_or-set_other M.serving.servers.servers s.0 o.0 None None (λ at. absurd (omega arith)))
     server-move (Servers (Close x)) ms fits rest proper q owner stays undoomed =
-        same-row o M.serving.servers (moved t (Servers (Close x)) M).serving.servers (get_or-set_other M.serving.servers.servers x.0 o.0 (option_map closing (server_at M.serving.servers x)) None (λ at. closes-apart x ms rest proper q owner (λ own. let none = stays own in omega arith) at))
-    server-move (Servers (CloseAll v)) ms fits rest proper q owner stays undoomed = elim (cases_lt 0 (times_owned M.serving.owned v o)) as (λ _. SameServer o M.serving.servers (all_closing (owned_by M.serving.owned v) M.serving.servers)) [
-      | inl some ↦
-          let owns = rows.serving.servers.owners v o some in
-          let row = owner-row (server_at M.serving.servers o) u owner in
-          let both : Some row.0 ≡ Some owns.row = sym row.1 ∙ owns.is in
-          let same_row : row.0 ≡ owns.row = cc in
-          let own : u ≡ v = sym row.2 ∙ (ap (λ (z : ServerRow). z.owner) same_row ∙ same_object owns.row.owner v owns.owner) in
-          let doomed : 0 < total (doomed_bit u) ms = subst (λ (z : ObjNo). 0 < total (doomed_bit z) ms) (sym own) proper in absurd (omega arith)
-      | inr none ↦ same-row o M.serving.servers (all_closing (owned_by M.serving.owned v) M.serving.servers) (closing-other (owned_by M.serving.owned v) M.serving.servers o (omega arith))
-    ]
+        same-row o M.serving.servers (moved t (Servers (Close x)) M).serving.servers
+        (get_or-set_other M.serving.servers.servers x.0 o.0 (option_map closing (server_at M.serving.servers x)) None
+        (λ at. closes-apart x ms rest proper q owner (λ own. let none = stays own in omega arith) at))
+    server-move (Servers (CloseAll v)) ms fits rest proper q owner stays undoomed = elim
+        (cases_lt 0 (times_owned M.serving.owned v o)) as
+        (λ _. SameServer o M.serving.servers (all_closing (owned_by M.serving.owned v) M.serving.servers)) [
+          | inl some ↦
+              let owns = rows.serving.servers.owners v o some in
+              let row = owner-row (server_at M.serving.servers o) u owner in
+              let both : Some row.0 ≡ Some owns.row = sym row.1 ∙ owns.is in
+              let same_row : row.0 ≡ owns.row = cc in
+              let own : u ≡ v = sym row.2 ∙ (ap (λ (z : ServerRow). z.owner) same_row ∙ same_object owns.row.owner v owns.owner) in
+              let doomed : 0 < total (doomed_bit u) ms = subst (λ (z : ObjNo). 0 < total (doomed_bit z) ms) (sym own) proper in absurd (omega arith)
+          | inr none ↦
+              same-row o M.serving.servers (all_closing (owned_by M.serving.owned v) M.serving.servers)
+              (closing-other (owned_by M.serving.owned v) M.serving.servers o (omega arith))
+        ]
     server-move (Pay what) ms fits rest proper q owner stays undoomed = absurd fits
     server-move m ms fits rest proper q owner stays undoomed = (refl, refl)
 
@@ -139,7 +159,8 @@ module _ (script : Script) (C : Type 0) (u o : ObjNo) (on : Option ObjNo) (S : S
     lost (Temp v) = awaited-row M.references.threads v (with_use None) (λ r. refl) u
     lost h = refl
 
-    closed : (b : Bool) (x : ObjNo) (threads : List (Option ThreadRow)) → awaited_by (get_or (threads_closed b x threads) u.0 None) ≡ awaited_by (get_or threads u.0 None)
+    closed : (b : Bool) (x : ObjNo) (threads : List (Option ThreadRow))
+        → awaited_by (get_or (threads_closed b x threads) u.0 None) ≡ awaited_by (get_or threads u.0 None)
     closed true x threads = awaited-row threads x unlinked (λ r. refl) u
     closed false x threads = refl
 
@@ -149,7 +170,8 @@ module _ (script : Script) (C : Type 0) (u o : ObjNo) (on : Option ObjNo) (S : S
     undoomed-other : (v : ObjNo) → same v u ≡ 0 → v.0 ≡ u.0 → ⊥
     undoomed-other v none at = let self = same_self u in let named = ap (λ (z : ObjNo). same z u) (same_object v u at) in absurd (omega arith)
 
-    row : (v : ObjNo) (f : ThreadRow → ThreadRow) → ((r : ThreadRow) → (f r).waiting ≡ r.waiting) → awaited_by (get_or (with_row M.references.threads v f) u.0 None) ≡ awaited_by (thread_of M u)
+    row : (v : ObjNo) (f : ThreadRow → ThreadRow) → ((r : ThreadRow) → (f r).waiting ≡ r.waiting)
+        → awaited_by (get_or (with_row M.references.threads v f) u.0 None) ≡ awaited_by (thread_of M u)
     row v f keeps = awaited-row M.references.threads v f keeps u
 
     waits-move : (m : Move) (ms : List Move) → FitsMove script t m M → IsProper script (on, S, last) m ms → doomed_bit u m ≡ 0 → Waits m
@@ -172,14 +194,17 @@ module _ (script : Script) (C : Type 0) (u o : ObjNo) (on : Option ObjNo) (S : S
       | inr other ↦ inl (awaited-other M.references.threads v (with_waiting waiting.Nothing) u other)
     ]
     waits-move (Death (Note v exit)) ms fits proper undoomed = inl (row v (death_row (Note v exit)) (λ r. refl))
-    waits-move (Death (Doom v exit)) ms fits proper undoomed = inl (awaited-other M.references.threads v (death_row (Doom v exit)) u (undoomed-other v undoomed))
+    waits-move (Death (Doom v exit)) ms fits proper undoomed = inl
+        (awaited-other M.references.threads v (death_row (Doom v exit)) u (undoomed-other v undoomed))
     waits-move (Death (Clean v)) ms fits proper undoomed = inl (row v (death_row (Clean v)) (λ r. refl))
     waits-move (Death (Bury v)) ms fits proper undoomed = inl (row v (death_row (Bury v)) (λ r. refl))
     waits-move (Pay what) ms fits proper undoomed = absurd fits
     waits-move m ms fits proper undoomed = inl refl
 
     -- messages of the server stay
-    finished-bit : (m : MsgNo) (found : Message) → is_closing S.serving.servers o ≡ false → WereSent S.serving.messages M.serving.messages → MayFinish S m → message_of M.serving.messages m ≡ Some found → untaken_bit o found ≡ 0
+    finished-bit : (m : MsgNo) (found : Message) → is_closing S.serving.servers o ≡ false
+        → WereSent S.serving.messages M.serving.messages → MayFinish S m → message_of M.serving.messages m ≡ Some found
+        → untaken_bit o found ≡ 0
     finished-bit m found accepts were may there = by (waits_at o.0 found) refl
       where
         among : Contains M.serving.messages.outstanding found × (has_number m found ≡ true)
@@ -195,7 +220,8 @@ module _ (script : Script) (C : Type 0) (u o : ObjNo) (on : Option ObjNo) (S : S
             let few = before.serving.messages.given may.row at.0 in
             let own = ap (λ (n : MsgNo). n.0) number in omega arith
 
-        was : (old : Message) × (message_of S.serving.messages found.number ≡ Some old) × (old.row.server ≡ found.row.server) × (found.row.taken ≡ false → old.row.taken ≡ false)
+        was : (old : Message) × (message_of S.serving.messages found.number ≡ Some old)
+            × (old.row.server ≡ found.row.server) × (found.row.taken ≡ false → old.row.taken ≡ false)
         was = all-has (WasSent S.serving.messages) M.serving.messages.outstanding were found among.0 given
 
         old : was.0 ≡ may.row
@@ -214,25 +240,32 @@ module _ (script : Script) (C : Type 0) (u o : ObjNo) (on : Option ObjNo) (S : S
             ]
 
     abbrev Stay : Move → Type 0
-    Stay m = is_closing S.serving.servers o ≡ false → 0 < total (untaken_bit o) M.serving.messages.outstanding → 0 < total (untaken_bit o) (moved t m M).serving.messages.outstanding
+    Stay m = is_closing S.serving.servers o ≡ false → 0 < total (untaken_bit o) M.serving.messages.outstanding
+        → 0 < total (untaken_bit o) (moved t m M).serving.messages.outstanding
 
-    messages-move : (m : Move) (ms : List Move) → FitsMove script t m M → IsProper script (on, S, last) m ms → WereSent S.serving.messages M.serving.messages → Stay m
-    messages-move (Messages (message.Accept slots new)) ms fits proper were accepts some = let all = sent-bits M.serving.messages (new_message M.serving.messages slots new) o in omega arith
-    messages-move (Messages (message.Take v)) ms fits proper were accepts some = elim (cases_eq v.0 o.0) as (λ _. 0 < total (untaken_bit o) (moved t (Messages (message.Take v)) M).serving.messages.outstanding) [
-      | inl at ↦ absurd (takes last (subst (IsTaking script (on, S, last)) (same_object v o at) proper))
-      | inr other ↦ let all = take-bits script M v o rows other in omega arith
-    ]
+    messages-move : (m : Move) (ms : List Move) → FitsMove script t m M → IsProper script (on, S, last) m ms
+        → WereSent S.serving.messages M.serving.messages → Stay m
+    messages-move (Messages (message.Accept slots new)) ms fits proper were accepts some = let all = sent-bits
+        M.serving.messages (new_message M.serving.messages slots new) o in omega arith
+    messages-move (Messages (message.Take v)) ms fits proper were accepts some = elim (cases_eq v.0 o.0) as
+        (λ _. 0 < total (untaken_bit o) (moved t (Messages (message.Take v)) M).serving.messages.outstanding) [
+          | inl at ↦ absurd (takes last (subst (IsTaking script (on, S, last)) (same_object v o at) proper))
+          | inr other ↦ let all = take-bits script M v o rows other in omega arith
+        ]
     messages-move (Messages (message.Finish m code)) ms fits proper were accepts some = by (message_of M.serving.messages m) refl
       where
-        by : (found : Option Message) → message_of M.serving.messages m ≡ found → 0 < total (untaken_bit o) (moved t (Messages (message.Finish m code)) M).serving.messages.outstanding
+        by : (found : Option Message) → message_of M.serving.messages m ≡ found
+            → 0 < total (untaken_bit o) (moved t (Messages (message.Finish m code)) M).serving.messages.outstanding
         by None is = let some : is_some (message_of M.serving.messages m) ≡ true = fits.0 in let none = ap is_some is in absurd (cc)
         by (Some found) is = let all = finish-bits script M m found o rows is (finished-bit m found accepts were proper is) in omega arith
     messages-move (Copies m) ms fits proper were accepts some = let all = copy-bits m M.references.threads M.serving.messages o in omega arith
     messages-move (Pay what) ms fits proper were accepts some = absurd fits
     messages-move m ms fits proper were accepts some = some
 
-    were-move : (m : Move) → FitsMove script t m M → S.serving.messages.accepted ≤ M.serving.messages.accepted → WereSent S.serving.messages M.serving.messages → WereSent S.serving.messages (moved t m M).serving.messages
-    were-move (Messages (message.Accept slots new)) fits long were = were-added S.serving.messages M.serving.messages (new_message M.serving.messages slots new) (omega arith) were
+    were-move : (m : Move) → FitsMove script t m M → S.serving.messages.accepted ≤ M.serving.messages.accepted
+        → WereSent S.serving.messages M.serving.messages → WereSent S.serving.messages (moved t m M).serving.messages
+    were-move (Messages (message.Accept slots new)) fits long were = were-added S.serving.messages M.serving.messages
+        (new_message M.serving.messages slots new) (omega arith) were
     were-move (Messages (message.Take v)) fits long were = were-taken S.serving.messages M.serving.messages (next_of M.serving.messages v) were
     were-move (Messages (message.Finish m code)) fits long were = were-finished S.serving.messages M.serving.messages m were
     were-move (Copies m) fits long were = were-copied m M.references.threads S.serving.messages M.serving.messages were
@@ -252,25 +285,42 @@ module _ (script : Script) (C : Type 0) (u o : ObjNo) (on : Option ObjNo) (S : S
     accepted-move m fits = omega arith
 
     -- one that is sent is there
-    sent-move : (m : Move) (ms : List Move) → FitsMove script t m M → IsProper script (on, S, last) m ms → Midst last M → sent_to m last ≡ Some o → (0 < total (untaken_bit o) (moved t m M).serving.messages.outstanding) × (is_closing S.serving.servers o ≡ false)
+    sent-move : (m : Move) (ms : List Move) → FitsMove script t m M → IsProper script (on, S, last) m ms → Midst last M
+        → sent_to m last ≡ Some o → (0 < total (untaken_bit o) (moved t m M).serving.messages.outstanding)
+        × (is_closing S.serving.servers o ≡ false)
     sent-move (Messages (message.Accept slots new)) ms fits proper q e =
         let server : new.server ≡ o = cc in
         let one = new-bit o new server (fits.0).untaken in
         let all = sent-bits M.serving.messages (new_message M.serving.messages slots new) o in
         (omega arith, ap (is_closing S.serving.servers) (sym server) ∙ proper)
-    sent-move (Messages (message.Take v)) ms fits proper q e = let was = q.sent e in (messages-move (Messages (message.Take v)) ms fits proper q.were was.1 was.0, was.1)
+    sent-move (Messages (message.Take v)) ms fits proper q e = let was = q.sent e in
+        (messages-move (Messages (message.Take v)) ms fits proper q.were was.1 was.0, was.1)
     sent-move m ms fits proper q e = let was = q.sent e in (messages-move m ms fits proper q.were was.1 was.0, was.1)
 
-    came-move : (m : Move) (ms : List Move) → FitsMove script t m M → IsProper script (on, S, last) m ms → doomed_bit u m ≡ 0 → Midst last M → C → ((awaited_by (thread_of (moved t m M) u) ≡ Some o) × (awaited_by (thread_of S u) ≡ Some o)) ⊎ ((0 < total (untaken_bit o) (moved t m M).serving.messages.outstanding) × (is_closing S.serving.servers o ≡ false))
-    came-move m ms fits proper undoomed q c = elim (q.came c) as (λ _. ((awaited_by (thread_of (moved t m M) u) ≡ Some o) × (awaited_by (thread_of S u) ≡ Some o)) ⊎ ((0 < total (untaken_bit o) (moved t m M).serving.messages.outstanding) × (is_closing S.serving.servers o ≡ false))) [
-      | inl waits ↦ elim (waits-move m ms fits proper undoomed) as (λ _. ((awaited_by (thread_of (moved t m M) u) ≡ Some o) × (awaited_by (thread_of S u) ≡ Some o)) ⊎ ((0 < total (untaken_bit o) (moved t m M).serving.messages.outstanding) × (is_closing S.serving.servers o ≡ false))) [
-        | inl same ↦ inl (same ∙ waits.0, waits.1)
-        | inr woken ↦ let was = q.sent (woken o waits.1) in inr (messages-move m ms fits proper q.were was.1 was.0, was.1)
-      ]
-      | inr come ↦ inr (messages-move m ms fits proper q.were come.1 come.0, come.1)
-    ]
+    came-move : (m : Move) (ms : List Move) → FitsMove script t m M → IsProper script (on, S, last) m ms
+        → doomed_bit u m ≡ 0 → Midst last M → C
+        → ((awaited_by (thread_of (moved t m M) u) ≡ Some o) × (awaited_by (thread_of S u) ≡ Some o))
+        ⊎ ((0 < total (untaken_bit o) (moved t m M).serving.messages.outstanding)
+        × (is_closing S.serving.servers o ≡ false))
+    came-move m ms fits proper undoomed q c = elim (q.came c) as
+        (λ _. ((awaited_by (thread_of (moved t m M) u) ≡ Some o) × (awaited_by (thread_of S u) ≡ Some o))
+        ⊎ ((0 < total (untaken_bit o) (moved t m M).serving.messages.outstanding)
+        × (is_closing S.serving.servers o ≡ false))) [
+          | inl waits ↦
+              elim (waits-move m ms fits proper undoomed) as
+              (λ _. ((awaited_by (thread_of (moved t m M) u) ≡ Some o) × (awaited_by (thread_of S u) ≡ Some o))
+              ⊎ ((0 < total (untaken_bit o) (moved t m M).serving.messages.outstanding)
+              × (is_closing S.serving.servers o ≡ false))) [
+                | inl same ↦ inl (same ∙ waits.0, waits.1)
+                | inr woken ↦ let was = q.sent (woken o waits.1) in inr (messages-move m ms fits proper q.were was.1 was.0, was.1)
+              ]
+          | inr come ↦ inr (messages-move m ms fits proper q.were come.1 come.0, come.1)
+        ]
 
-    pub midst-move : (m : Move) (ms : List Move) → FitsMove script t m M → EachFits script t ms (moved t m M) → IsProper script (on, S, last) m ms → OwnBefore (on, S, last) M (m ∷ ms) → (t.0 ≡ u.0 → total going_bit (m ∷ ms) ≡ 0) → total (doomed_bit u) (m ∷ ms) ≡ 0 → Midst last M → Midst (sent_to m last) (moved t m M)
+    pub midst-move : (m : Move) (ms : List Move) → FitsMove script t m M → EachFits script t ms (moved t m M)
+        → IsProper script (on, S, last) m ms → OwnBefore (on, S, last) M (m ∷ ms)
+        → (t.0 ≡ u.0 → total going_bit (m ∷ ms) ≡ 0) → total (doomed_bit u) (m ∷ ms) ≡ 0 → Midst last M
+        → Midst (sent_to m last) (moved t m M)
     midst-move m ms fits rest proper q stays undoomed h =
         let server = server-move m ms fits rest proper q h.owner stays undoomed in
         let long = accepted-move m fits in
@@ -285,10 +335,14 @@ module _ (script : Script) (C : Type 0) (u o : ObjNo) (on : Option ObjNo) (S : S
         }
 
   -- several moves
-  pub midst-each : (last : Option ObjNo) (M : State) (ms : List Move) → IsGoing script M t ms → AreProper script (on, S, last) ms → OwnBefore (on, S, last) M ms → (t.0 ≡ u.0 → total going_bit ms ≡ 0) → total (doomed_bit u) ms ≡ 0 → (row : ThreadRow) → thread_of (perform t ms M) u ≡ Some row → Midst last M → (last : Option ObjNo) × Midst last (perform t ms M)
+  pub midst-each : (last : Option ObjNo) (M : State) (ms : List Move) → IsGoing script M t ms
+      → AreProper script (on, S, last) ms → OwnBefore (on, S, last) M ms → (t.0 ≡ u.0 → total going_bit ms ≡ 0)
+      → total (doomed_bit u) ms ≡ 0 → (row : ThreadRow) → thread_of (perform t ms M) u ≡ Some row → Midst last M
+      → (last : Option ObjNo) × Midst last (perform t ms M)
   midst-each last M [] goes proper q stays undoomed row is h = (last, h)
   midst-each last M (m ∷ ms) goes proper q stays undoomed row is h =
       let was = (each-dies script M t (m ∷ ms) goes.each goes.few goes.sane).were u.0 row is in
-      midst-each (sent_to m last) (moved t m M) ms (going-then script M t m ms goes) proper.1 (before-move script (on, S, last) M t goes.sane.rows m ms goes.each.0 proper.0 q)
+      midst-each (sent_to m last) (moved t m M) ms (going-then script M t m ms goes) proper.1
+      (before-move script (on, S, last) M t goes.sane.rows m ms goes.each.0 proper.0 q)
       (λ at. let none = stays at in omega arith) (omega arith) row is
       (midst-move last M goes.sane.rows (ap is_some was.was) m ms goes.each.0 goes.each.1 proper.0 q stays undoomed h)

@@ -98,8 +98,14 @@ plain_born script =
     let queues = born_queues 1 script.queues in
     let own = born_threads None 0 0 script.threads in
     let first = length (born_kernel script) in
-    all-append IsPlain (born_kernel script) (born_processes script.threads 0 first script.processes)
-    ((refl, λ e. absurd (cc)), ((refl, λ e. refl), all-append IsPlain queues own (plain_queues 1 script.queues) (all_threads IsPlain plain_thread None 0 0 script.threads)))
+    all-append IsPlain (born_kernel script) (born_processes script.threads 0 first script.processes) (
+      (refl, λ e. absurd (cc)),
+      (
+        (refl, λ e. refl),
+        all-append IsPlain queues own (plain_queues 1 script.queues)
+            (all_threads IsPlain plain_thread None 0 0 script.threads),
+      ),
+    )
     (all_processes IsPlain plain_thread plain_process script.threads 0 first script.processes)
 
 plain_at : (bs : List Born) (k : ℕ) (row : ObjectRow) → AllByRecursion IsPlain bs

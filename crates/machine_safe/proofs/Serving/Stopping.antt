@@ -66,7 +66,8 @@ filter_there p [] y there passes = there
 filter_there {A} p (x ∷ xs) y there passes = by (p x) refl (λ z. filter_there p xs z)
   where
     by : (b : Bool) → p x ≡ b → ((z : A) → Contains xs z → p z ≡ true → Contains (filter p xs) z) → Contains (if b then x ∷ filter p xs else filter p xs) y
-    by true is rest = contains_cases (λ z. p z ≡ true → Contains (x ∷ filter p xs) z) x xs y there (λ _. contains_first (filter p xs) x) (λ z behind ok. contains_behind x (filter p xs) z (rest z behind ok)) passes
+    by true is rest = contains_cases (λ z. p z ≡ true → Contains (x ∷ filter p xs) z) x xs y there
+        (λ _. contains_first (filter p xs) x) (λ z behind ok. contains_behind x (filter p xs) z (rest z behind ok)) passes
     by false is rest = contains_cases (λ z. p z ≡ true → Contains (filter p xs) z) x xs y there (λ ok. absurd (cc)) (λ z behind ok. rest z behind ok) passes
 
 module _ (script : Script) (before : List Entry) (S : State) (place : ℕ) (t : ObjNo) (rows : AreRows script S) (book : Book script before S) where
@@ -77,7 +78,8 @@ module _ (script : Script) (before : List Entry) (S : State) (place : ℕ) (t : 
   posted p among = contains_map post_of S.serving.messages.outstanding p among
 
   -- the handle of a server is closed
-  pub turn-closes : {k : Kinds} (d : Decision) → IsRegular k script S t d → IsClosing S t d → Doing script S t d.moves → IsTurn script before (entry_for place t S d) (perform t d.moves S)
+  pub turn-closes : {k : Kinds} (d : Decision) → IsRegular k script S t d → IsClosing S t d → Doing script S t d.moves
+      → IsTurn script before (entry_for place t S d) (perform t d.moves S)
   turn-closes d regular is does = record {
     book = record {
       served = served-same script r2 (reading (before ++ e ∷ [])) (perform t d.moves S) same whole;
@@ -142,7 +144,8 @@ module _ (script : Script) (before : List Entry) (S : State) (place : ℕ) (t : 
       whole : Served script r2 (perform t d.moves S)
       whole = subst (λ (l : List Move). Served script r2 (perform t l S)) (sym is.moves)
           (served-keeps script r1 mid (perform t back mid) t back d.step gs served1 keeps
-          (λ x. let a = regular.dooms x in let b = ap (total (closed_bit x)) is.moves in let c = ap (total (doomed_bit x)) is.moves in let f = doom-told t back mid x in omega arith)
+          (λ x. let a = regular.dooms x in let b = ap (total (closed_bit x)) is.moves in
+          let c = ap (total (doomed_bit x)) is.moves in let f = doom-told t back mid x in omega arith)
           (λ x. doom-among t back mid x)
           (λ x row there. let a = lost-each script mid t back x last.each in let b = lost-behind is.answers t x in omega arith)
           (λ making. absurd (cc)) (λ x some. let none = undetached-behind is.answers t x in absurd (omega arith)))
@@ -151,15 +154,26 @@ module _ (script : Script) (before : List Entry) (S : State) (place : ℕ) (t : 
       told_all = ap (λ (l : List Move). tell t l S) is.moves
 
       same : IsSame r2 (reading (before ++ e ∷ []))
-      same = same-then r2 (further (reading before) d.step e.effects (λ k. steps_of t (Lose is.holder is.server ∷ []) k + steps_of t back k)) (reading (before ++ e ∷ []))
-          (subst (λ (l : List Effect). IsSame r2 (further (reading before) d.step l (λ k. steps_of t (Lose is.holder is.server ∷ []) k + steps_of t back k))) (sym told_all) (same-both (reading before) d.step fs gs (steps_of t (Lose is.holder is.server ∷ [])) (steps_of t back)))
-          (same-entry before e (λ k. steps_of t (Lose is.holder is.server ∷ []) k + steps_of t back k) (λ k. let a = counts t back d k (let b = regular.answers in let c = ap (total advance_bit) is.moves in omega arith) in let none = if_zero (t.0 == k) (total advance_bit (Lose is.holder is.server ∷ [])) refl in omega arith))
+      same =
+          same-then r2 (further (reading before) d.step e.effects
+          (λ k. steps_of t (Lose is.holder is.server ∷ []) k + steps_of t back k)) (reading (before ++ e ∷ []))
+          (subst (λ (l : List Effect). IsSame r2
+          (further (reading before) d.step l (λ k. steps_of t (Lose is.holder is.server ∷ []) k + steps_of t back k)))
+          (sym told_all) (same-both (reading before) d.step fs gs (steps_of t (Lose is.holder is.server ∷ []))
+          (steps_of t back)))
+          (same-entry before e (λ k. steps_of t (Lose is.holder is.server ∷ []) k + steps_of t back k)
+          (λ k. let a = counts t back d k (let b = regular.answers in let c = ap (total advance_bit) is.moves in
+          omega arith) in let none = if_zero (t.0 == k) (total advance_bit (Lose is.holder is.server ∷ [])) refl in
+          omega arith))
 
       unlinked : (s : ObjNo) → server_told e.effects s ≡ None
-      unlinked s = ap (λ (l : List Effect). server_told l s) told_all ∙ (server_told-append fs gs s ∙ (ap (λ (x : Option ObjNo). or_before x (server_told fs s)) (keeps.unlinked s) ∙ loses.unlinked s))
+      unlinked s = ap (λ (l : List Effect). server_told l s) told_all
+          ∙ (server_told-append fs gs s ∙ (ap (λ (x : Option ObjNo). or_before x (server_told fs s)) (keeps.unlinked s)
+          ∙ loses.unlinked s))
 
       unended : (x : ObjNo) → ends e.effects x ≡ 0
-      unended x = let a = ap (λ (l : List Effect). ends l x) told_all in let b = ends-append fs gs x in let c = loses.unended x in let f = keeps.unended x in omega arith
+      unended x = let a = ap (λ (l : List Effect). ends l x) told_all in let b = ends-append fs gs x in
+          let c = loses.unended x in let f = keeps.unended x in omega arith
 
       q : IsQuiet S (perform t d.moves S) e.effects
       q = quiet-doing script S t d.moves does (let a = ap (total message_bit) is.moves in let b = (behind-still is.answers t).1 in omega arith)
@@ -171,14 +185,20 @@ module _ (script : Script) (before : List Entry) (S : State) (place : ℕ) (t : 
           record { old = first.old; was = first.was; slots = first.slots ∙ after.slots }
 
   -- a server stops
-  pub turn-stops : {k : Kinds} (d : Decision) → IsRegular k script S t d → IsStopping S t d → Doing script S t d.moves → IsTurn script before (entry_for place t S d) (perform t d.moves S)
+  pub turn-stops : {k : Kinds} (d : Decision) → IsRegular k script S t d → IsStopping S t d → Doing script S t d.moves
+      → IsTurn script before (entry_for place t S d) (perform t d.moves S)
   turn-stops d regular is does = record {
     book = record {
       served = served-same script r1 (reading (before ++ e ∷ [])) (perform t d.moves S) same whole;
       letters = letters-quiet script before S (perform t d.moves S) e book.letters (λ p among. unlinked p.session) q
-          (λ p among. let a = ended p.server in let none : same_bit is.server p.server ≡ 0 = if_not (is.server.0 == p.server.0) 1 (eqb_apart is.server.0 p.server.0 (λ at. left p among (sym at))) in omega arith);
+          (λ p among. let a = ended p.server in
+          let none : same_bit is.server p.server
+          ≡ 0 = if_not (is.server.0 == p.server.0) 1 (eqb_apart is.server.0 p.server.0 (λ at. left p among (sym at))) in
+          omega arith);
       slotted = slotted-keeps script before e S (perform t d.moves S) book.slotted unlinked
-          (λ s row is_row. session-closed (dies (moved t (Servers (End is.server)) S) is.server) is.server S.serving.servers s row (ap (λ (l : List Move). session_at (perform t l S).serving.servers s) (sym is.moves) ∙ is_row)) q.pool;
+          (λ s row is_row. session-closed (dies (moved t (Servers (End is.server)) S) is.server) is.server
+          S.serving.servers s row (ap (λ (l : List Move). session_at (perform t l S).serving.servers s) (sym is.moves)
+          ∙ is_row)) q.pool;
       fresh = fresh-on before e book.fresh (λ makes. let none = is.makes in absurd (cc));
     };
     lawful = record {
@@ -223,20 +243,32 @@ module _ (script : Script) (before : List Entry) (S : State) (place : ℕ) (t : 
       r1 = further (reading before) d.step gs (λ k. 0)
 
       whole : Served script r1 (perform t d.moves S)
-      whole = subst (λ (l : List Move). Served script r1 (perform t l S)) (sym is.moves) (served-stopped script (reading before) S t d.step book.served is.server is.makes may (owned_inside S.serving.owned t is.server owned) (let a = rows.serving.servers.once t is.server in let b = owned in omega arith) alone)
+      whole =
+          subst (λ (l : List Move). Served script r1 (perform t l S)) (sym is.moves)
+          (served-stopped script (reading before) S t d.step book.served is.server is.makes may
+          (owned_inside S.serving.owned t is.server owned)
+          (let a = rows.serving.servers.once t is.server in let b = owned in omega arith) alone)
 
       told_all : e.effects ≡ gs
-      told_all = ap (λ (l : List Move). tell t l S) is.moves ∙ ap (λ (l : List Effect). Terminated is.server ∷ l) (append-nil (closed_effects (dies (moved t (Servers (End is.server)) S) is.server) (Own t) is.server))
+      told_all =
+          ap (λ (l : List Move). tell t l S) is.moves
+          ∙ ap (λ (l : List Effect). Terminated is.server ∷ l)
+          (append-nil (closed_effects (dies (moved t (Servers (End is.server)) S) is.server) (Own t) is.server))
 
       same : IsSame r1 (reading (before ++ e ∷ []))
       same = subst (λ (l : List Effect). IsSame (further (reading before) d.step l (λ k. 0)) (reading (before ++ e ∷ []))) told_all
-          (same-entry before e (λ k. 0) (λ k. let a = counts t [] d k (let b = regular.answers in let c = ap (total advance_bit) is.moves in omega arith) in let none = if_zero (t.0 == k) (total advance_bit []) refl in omega arith))
+          (same-entry before e (λ k. 0) (λ k. let a = counts t [] d k
+          (let b = regular.answers in let c = ap (total advance_bit) is.moves in omega arith) in
+          let none = if_zero (t.0 == k) (total advance_bit []) refl in omega arith))
 
       unlinked : (s : ObjNo) → server_told e.effects s ≡ None
-      unlinked s = ap (λ (l : List Effect). server_told l s) told_all ∙ (unlinking-close (dies (moved t (Servers (End is.server)) S) is.server) (Own t) is.server).unlinked s
+      unlinked s = ap (λ (l : List Effect). server_told l s) told_all
+          ∙ (unlinking-close (dies (moved t (Servers (End is.server)) S) is.server) (Own t) is.server).unlinked s
 
       ended : (x : ObjNo) → ends e.effects x ≡ same_bit is.server x
-      ended x = let a = ap (λ (l : List Effect). ends l x) told_all in let b = (unlinking-close (dies (moved t (Servers (End is.server)) S) is.server) (Own t) is.server).unended x in omega arith
+      ended x = let a = ap (λ (l : List Effect). ends l x) told_all in
+          let b = (unlinking-close (dies (moved t (Servers (End is.server)) S) is.server) (Own t) is.server).unended x in
+          omega arith
 
       q : IsQuiet S (perform t d.moves S) e.effects
       q = quiet-doing script S t d.moves does (let a = ap (total message_bit) is.moves in omega arith)
@@ -245,7 +277,8 @@ module _ (script : Script) (before : List Entry) (S : State) (place : ℕ) (t : 
       left : (p : Post) → Contains (posts S) p → (p.server.0 ≡ is.server.0 → ⊥)
       left p among at =
           let was = posted p among in
-          let there = filter_there (is_at is.server.0) S.serving.messages.outstanding was.0 was.1 (eq-eqb was.0.row.server.0 is.server.0 (ap (λ (x : Post). x.server.0) was.2 ∙ at)) in
+          let there = filter_there (is_at is.server.0) S.serving.messages.outstanding was.0 was.1
+          (eq-eqb was.0.row.server.0 is.server.0 (ap (λ (x : Post). x.server.0) was.2 ∙ at)) in
           none_contained was.0 (subst (λ (l : List Message). Contains l was.0) may.finished there)
 
       nothing : NothingLeft before is.server
@@ -262,7 +295,10 @@ module _ (script : Script) (before : List Entry) (S : State) (place : ℕ) (t : 
       is_end =
           let row = closing-row (server_at S.serving.servers is.server) may.closing in record {
             closing = closing-told-by script before S is.server row.0 book row.1 ∙ row.2;
-            first = sym (book.fresh is.server row.0.owner (book.served.rows is.server row.0 row.1).owner).ends ∙ zero_or (ends (effects_of before) is.server) (λ some. let none = book.served.over t is.server some in let own = owned in absurd (omega arith));
+            first =
+                sym (book.fresh is.server row.0.owner (book.served.rows is.server row.0 row.1).owner).ends
+                ∙ zero_or (ends (effects_of before) is.server)
+                (λ some. let none = book.served.over t is.server some in let own = owned in absurd (omega arith));
             once = let a = ended is.server in let own = same_self is.server in omega arith;
             alone = q.accepts;
             left = nothing;

@@ -32,7 +32,9 @@ use Rattle.machine.specs.Boot.{boot_in}
 use Rattle.machine.specs.Out.{is_returning}
 
 -- a fact follows from what the step of a thread comes to, if it holds wherever a step goes on
-module _ (script : Script) (due : Option Instr → Option Part → Bool) (F : State → ObjNo → ThreadRow → Type 0) (fact : IsFact script due F) (S : State) (rows : AreRows script S) (own : Owned S) (has : Facts script due F S) (t : ObjNo) where
+module _ (script : Script) (due : Option Instr → Option Part → Bool) (F : State → ObjNo → ThreadRow → Type 0)
+    (fact : IsFact script due F) (S : State) (rows : AreRows script S) (own : Owned S) (has : Facts script due F S)
+    (t : ObjNo) where
   -- it holds where the thread goes on to a step
   abbrev pub HoldsOn : ThreadRow → Instr → Option Part → Decision → Type 0
   HoldsOn old i p d =
@@ -60,7 +62,8 @@ module _ (script : Script) (due : Option Instr → Option Part → Bool) (F : St
       let none : total advance_bit d.moves ≡ 0 = fits.regular.answers ∙ ap answer_bit silent in
       let still = if_zero (t.0 == t.0) (total advance_bit d.moves) none in
       let own : w.old ≡ old = (let a = w.was in cc) in
-      let now : instruction script row ≡ Some i = same-instruction script w.old row w.role (let p = w.place in omega arith) ∙ (ap (instruction script) own ∙ at) in
+      let now : instruction script row ≡ Some i = same-instruction script w.old row w.role
+      (let p = w.place in omega arith) ∙ (ap (instruction script) own ∙ at) in
       let reached = on row is (fact.later (instruction script row) row.part owes) in
       holds to there (ap (due (Some i)) (sym reached.part) ∙ (ap (λ (x : Option Instr). due x row.part) (sym now) ∙ owes)) row is now reached
 

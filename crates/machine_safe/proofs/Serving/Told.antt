@@ -56,23 +56,63 @@ unserved-nano (nano.Give t f) = record { links = record { unlinked = λ s. refl;
 unserved-nano _ = record { links = record { unlinked = λ s. refl; unended = λ v. refl }; accepts = refl; finishes = λ m. refl; lost = λ v. refl }
 
 unserved-request : (m : RequestMove) → IsUnserved (request_told m)
-unserved-request (request.Complete d t s code) = record { links = record { unlinked = λ s. refl; unended = λ v. refl }; accepts = refl; finishes = λ m. refl; lost = λ v. refl }
-unserved-request (request.Signal t s code) = record { links = record { unlinked = λ s. refl; unended = λ v. refl }; accepts = refl; finishes = λ m. refl; lost = λ v. refl }
-unserved-request (request.Reply t code) = record { links = record { unlinked = λ s. refl; unended = λ v. refl }; accepts = refl; finishes = λ m. refl; lost = λ v. refl }
+unserved-request (request.Complete d t s code) = record {
+  links = record { unlinked = λ s. refl; unended = λ v. refl };
+  accepts = refl;
+  finishes = λ m. refl;
+  lost = λ v. refl;
+}
+unserved-request (request.Signal t s code) = record {
+  links = record { unlinked = λ s. refl; unended = λ v. refl };
+  accepts = refl;
+  finishes = λ m. refl;
+  lost = λ v. refl;
+}
+unserved-request (request.Reply t code) = record {
+  links = record { unlinked = λ s. refl; unended = λ v. refl };
+  accepts = refl;
+  finishes = λ m. refl;
+  lost = λ v. refl;
+}
 unserved-request _ = record { links = record { unlinked = λ s. refl; unended = λ v. refl }; accepts = refl; finishes = λ m. refl; lost = λ v. refl }
 
 unserved-death : (m : DeathMove) → IsUnserved (death_told m)
-unserved-death (death.Note t exit) = record { links = record { unlinked = λ s. refl; unended = λ v. refl }; accepts = refl; finishes = λ m. refl; lost = λ v. refl }
-unserved-death (death.Doom t exit) = record { links = record { unlinked = λ s. refl; unended = λ v. refl }; accepts = refl; finishes = λ m. refl; lost = λ v. refl }
+unserved-death (death.Note t exit) = record {
+  links = record { unlinked = λ s. refl; unended = λ v. refl };
+  accepts = refl;
+  finishes = λ m. refl;
+  lost = λ v. refl;
+}
+unserved-death (death.Doom t exit) = record {
+  links = record { unlinked = λ s. refl; unended = λ v. refl };
+  accepts = refl;
+  finishes = λ m. refl;
+  lost = λ v. refl;
+}
 unserved-death (death.Clean t) = record { links = record { unlinked = λ s. refl; unended = λ v. refl }; accepts = refl; finishes = λ m. refl; lost = λ v. refl }
 unserved-death (death.Bury t) = record { links = record { unlinked = λ s. refl; unended = λ v. refl }; accepts = refl; finishes = λ m. refl; lost = λ v. refl }
 
 unserved-lock : (m : LockMove) → IsUnserved (lock_told m)
 unserved-lock (Lock o t Taken) = record { links = record { unlinked = λ s. refl; unended = λ v. refl }; accepts = refl; finishes = λ m. refl; lost = λ v. refl }
-unserved-lock (Unlock o t Freed) = record { links = record { unlinked = λ s. refl; unended = λ v. refl }; accepts = refl; finishes = λ m. refl; lost = λ v. refl }
-unserved-lock (Unlock o t (Passed w)) = record { links = record { unlinked = λ s. refl; unended = λ v. refl }; accepts = refl; finishes = λ m. refl; lost = λ v. refl }
+unserved-lock (Unlock o t Freed) = record {
+  links = record { unlinked = λ s. refl; unended = λ v. refl };
+  accepts = refl;
+  finishes = λ m. refl;
+  lost = λ v. refl;
+}
+unserved-lock (Unlock o t (Passed w)) = record {
+  links = record { unlinked = λ s. refl; unended = λ v. refl };
+  accepts = refl;
+  finishes = λ m. refl;
+  lost = λ v. refl;
+}
 unserved-lock (Free o t None) = record { links = record { unlinked = λ s. refl; unended = λ v. refl }; accepts = refl; finishes = λ m. refl; lost = λ v. refl }
-unserved-lock (Free o t (Some w)) = record { links = record { unlinked = λ s. refl; unended = λ v. refl }; accepts = refl; finishes = λ m. refl; lost = λ v. refl }
+unserved-lock (Free o t (Some w)) = record {
+  links = record { unlinked = λ s. refl; unended = λ v. refl };
+  accepts = refl;
+  finishes = λ m. refl;
+  lost = λ v. refl;
+}
 unserved-lock _ = record { links = record { unlinked = λ s. refl; unended = λ v. refl }; accepts = refl; finishes = λ m. refl; lost = λ v. refl }
 
 -- a close tells of no link and no message
@@ -93,27 +133,62 @@ close-lost true h o v not = ap (λ (b : Bool). (if b then same o v else 0) + 0) 
 close-lost false h o v not = ap (λ (b : Bool). (if b then same o v else 0) + 0) not
 
 unserved-close : (last : Bool) (h : Holder) (o : ObjNo) → is_handle h ≡ false → IsUnserved (closed_effects last h o)
-unserved-close last h o not = record { links = unlinking-close last h o; accepts = close-accepts last h o; finishes = close-finishes last h o; lost = λ v. close-lost last h o v not }
+unserved-close last h o not = record {
+  links = unlinking-close last h o;
+  accepts = close-accepts last h o;
+  finishes = close-finishes last h o;
+  lost = λ v. close-lost last h o v not;
+}
 
 -- a move that serves nobody
 pub unserved-move : (script : Script) (S : State) (t : ObjNo) (m : Move) → FitsMove script t m S → serving_bit m ≡ 0 → IsUnserved (told m S)
 unserved-move script S t (Make kind name (Link s)) fits none = absurd fits.1
-unserved-move script S t (Make kind name h) fits none = record { links = record { unlinked = λ s. refl; unended = λ v. refl }; accepts = refl; finishes = λ m. refl; lost = λ v. refl }
+unserved-move script S t (Make kind name h) fits none = record {
+  links = record { unlinked = λ s. refl; unended = λ v. refl };
+  accepts = refl;
+  finishes = λ m. refl;
+  lost = λ v. refl;
+}
 unserved-move script S t (Gain (Link s) o) fits none = absurd fits.0
-unserved-move script S t (Gain h o) fits none = record { links = record { unlinked = λ s. refl; unended = λ v. refl }; accepts = refl; finishes = λ m. refl; lost = λ v. refl }
+unserved-move script S t (Gain h o) fits none = record {
+  links = record { unlinked = λ s. refl; unended = λ v. refl };
+  accepts = refl;
+  finishes = λ m. refl;
+  lost = λ v. refl;
+}
 unserved-move script S t (Lose (Temp u) o) fits none = unserved-close (dies S o) (Temp u) o refl
 unserved-move script S t (Lose h o) fits none = absurd (omega arith)
 unserved-move script S t (Nano m) fits none = unserved-nano m
 unserved-move script S t (Requests m) fits none = unserved-request m
 unserved-move script S t (Locks m) fits none = unserved-lock m
 unserved-move script S t (Death m) fits none = unserved-death m
-unserved-move script S t (Servers (CloseAll u)) fits none = record { links = record { unlinked = λ s. refl; unended = λ v. refl }; accepts = refl; finishes = λ m. refl; lost = λ v. refl }
-unserved-move script S t (Servers (SetOpen s to)) fits none = record { links = record { unlinked = λ s. refl; unended = λ v. refl }; accepts = refl; finishes = λ m. refl; lost = λ v. refl }
+unserved-move script S t (Servers (CloseAll u)) fits none = record {
+  links = record { unlinked = λ s. refl; unended = λ v. refl };
+  accepts = refl;
+  finishes = λ m. refl;
+  lost = λ v. refl;
+}
+unserved-move script S t (Servers (SetOpen s to)) fits none = record {
+  links = record { unlinked = λ s. refl; unended = λ v. refl };
+  accepts = refl;
+  finishes = λ m. refl;
+  lost = λ v. refl;
+}
 unserved-move script S t (Servers m) fits none = absurd (omega arith)
-unserved-move script S t (Messages (Take o)) fits none = record { links = record { unlinked = λ s. refl; unended = λ v. refl }; accepts = refl; finishes = λ m. refl; lost = λ v. refl }
+unserved-move script S t (Messages (Take o)) fits none = record {
+  links = record { unlinked = λ s. refl; unended = λ v. refl };
+  accepts = refl;
+  finishes = λ m. refl;
+  lost = λ v. refl;
+}
 unserved-move script S t (Messages m) fits none = absurd (omega arith)
 unserved-move script S t (Pay what) fits none = absurd fits
-unserved-move script S t m fits none = record { links = record { unlinked = λ s. refl; unended = λ v. refl }; accepts = refl; finishes = λ m. refl; lost = λ v. refl }
+unserved-move script S t m fits none = record {
+  links = record { unlinked = λ s. refl; unended = λ v. refl };
+  accepts = refl;
+  finishes = λ m. refl;
+  lost = λ v. refl;
+}
 
 -- one that makes and ends no server
 pub unlinking-move : (script : Script) (S : State) (t : ObjNo) (m : Move) → FitsMove script t m S → changing_bit m ≡ 0 → IsUnlinking (told m S)
@@ -154,7 +229,9 @@ pub unowned-close : (last : Bool) (h : Holder) (o v : ObjNo) → owner_told (clo
 unowned-close true h o v = refl
 unowned-close false h o v = refl
 
-pub unowned-move : (script : Script) (S : State) (t : ObjNo) (m : Move) → ((o : ObjNo) (row : ServerRow) → server_at S.serving.servers o ≡ Some row → o.0 < length S.references.objects) → FitsMove script t m S → changing_bit m ≡ 0 → mutex_bit m ≡ 0 → (v : ObjNo) → owner_told (told m S) v ≡ None
+pub unowned-move : (script : Script) (S : State) (t : ObjNo) (m : Move)
+    → ((o : ObjNo) (row : ServerRow) → server_at S.serving.servers o ≡ Some row → o.0 < length S.references.objects)
+    → FitsMove script t m S → changing_bit m ≡ 0 → mutex_bit m ≡ 0 → (v : ObjNo) → owner_told (told m S) v ≡ None
 unowned-move script S t (Make kind name (Own u)) made fits none unlocked v = let past = made (next_object S) _ fits.1.server in absurd (omega arith)
 unowned-move script S t (Make kind name h) made fits none unlocked v = refl
 unowned-move script S t (Gain (Own u) o) made fits none unlocked v = absurd fits.0

@@ -68,7 +68,9 @@ pub record IsTurn (script : Script) (before : List Entry) (e : Entry) (T : State
   pub lawful : IsLawful script before e
 
 -- an entry that tells of no message and no end
-pub unserving : (script : Script) (before : List Entry) (e : Entry) → accepts e.effects ≡ 0 → ((m : MsgNo) → finishes e.effects m ≡ 0) → ((v : ObjNo) → ends e.effects v ≡ 0) → (is_send e.step ≡ true → IsSendAnswer script before e) → IsLawful script before e
+pub unserving : (script : Script) (before : List Entry) (e : Entry) → accepts e.effects ≡ 0
+    → ((m : MsgNo) → finishes e.effects m ≡ 0) → ((v : ObjNo) → ends e.effects v ≡ 0)
+    → (is_send e.step ≡ true → IsSendAnswer script before e) → IsLawful script before e
 unserving script before e none unfinished unended sends = record {
   acceptance = λ some. absurd (omega arith);
   finish = λ m some. let a = unfinished m in absurd (omega arith);
@@ -81,7 +83,8 @@ abbrev pub entry_for : ℕ → ObjNo → State → Decision → Entry
 entry_for place t S d = entry_of place (Thread t) (record { step = d.step; effects = tell t d.moves S; answer = d.answer })
 
 -- the places of threads move as answers say
-pub counts : (t : ObjNo) (ms : List Move) (d : Decision) (k : ℕ) → total advance_bit ms ≡ answer_bit d.answer → steps_of t ms k ≡ (if (t.0 == k) && is_some d.answer then 1 else 0) + 0
+pub counts : (t : ObjNo) (ms : List Move) (d : Decision) (k : ℕ) → total advance_bit ms ≡ answer_bit d.answer
+    → steps_of t ms k ≡ (if (t.0 == k) && is_some d.answer then 1 else 0) + 0
 counts t ms d k same = by (t.0 == k) d.answer same
   where
     by : (b : Bool) (x : Option ℤ) → total advance_bit ms ≡ answer_bit x → (if b then total advance_bit ms else 0) ≡ (if b && is_some x then 1 else 0) + 0
@@ -90,24 +93,31 @@ counts t ms d k same = by (t.0 == k) d.answer same
     by false x same = refl
 
 -- a server is closing, as told, where its row says so
-pub closing-told-by : (script : Script) (before : List Entry) (S : State) (v : ObjNo) (row : ServerRow) → Book script before S → server_at S.serving.servers v ≡ Some row → is_closing_in before v ≡ row.is_closing
-closing-told-by script before S v row book is = let served = book.served.rows v row is in closing-since before v row.owner book.fresh served.owner ∙ sym served.closing
+pub closing-told-by : (script : Script) (before : List Entry) (S : State) (v : ObjNo) (row : ServerRow)
+    → Book script before S → server_at S.serving.servers v ≡ Some row → is_closing_in before v ≡ row.is_closing
+closing-told-by script before S v row book is =
+    let served = book.served.rows v row is in
+    closing-since before v row.owner book.fresh served.owner ∙ sym served.closing
 
 -- a session that is alive, as it is in the rows and as it is told
-accepting-told : (script : Script) (before : List Entry) (S : State) (s v : ObjNo) → AreRows script S → Book script before S → server_of S.serving.servers s ≡ Some v → is_closing S.serving.servers v ≡ false → accepts_in before (server_in before s) ≡ true
+accepting-told : (script : Script) (before : List Entry) (S : State) (s v : ObjNo) → AreRows script S
+    → Book script before S → server_of S.serving.servers s ≡ Some v → is_closing S.serving.servers v ≡ false
+    → accepts_in before (server_in before s) ≡ true
 accepting-told script before S s v rows book linked open_server_is =
     let row = there-row (server_at S.serving.servers v) (rows.serving.servers.sessions s v linked) in
     let told : is_closing_in before v ≡ false = closing-told-by script before S v row.0 book row.1 ∙ (sym (ap closes row.1) ∙ open_server_is) in
     ap (accepts_in before) (book.slotted.servers s ∙ book.served.links s v linked) ∙ ap not told
 
-closing-told : (script : Script) (before : List Entry) (S : State) (s : ObjNo) → Book script before S → IsAlive (object_of S s) → open_server S s ≡ None → accepts_in before (server_in before s) ≡ false
+closing-told : (script : Script) (before : List Entry) (S : State) (s : ObjNo) → Book script before S
+    → IsAlive (object_of S s) → open_server S s ≡ None → accepts_in before (server_in before s) ≡ false
 closing-told script before S s book alive none = by (server_in before s) (book.slotted.servers s)
   where
     closing : (v : ObjNo) → is_closing S.serving.servers v ≡ true → not (is_closing_in before v) ≡ false
     closing v is = let row = closing-row (server_at S.serving.servers v) is in ap not (closing-told-by script before S v row.0 book row.1 ∙ row.2)
 
     linked : (v : ObjNo) → server_of S.serving.servers s ≡ Some v → is_closing S.serving.servers v ≡ true
-    linked v is = where_open (is_closing S.serving.servers v) refl (sym (ap (λ (x : Option ObjNo). if server_rows.accepts S.serving.servers x then x else None) is) ∙ none)
+    linked v is = where_open (is_closing S.serving.servers v) refl
+        (sym (ap (λ (x : Option ObjNo). if server_rows.accepts S.serving.servers x then x else None) is) ∙ none)
       where
         where_open : (b : Bool) → is_closing S.serving.servers v ≡ b → (if not b then Some v else None) ≡ None → is_closing S.serving.servers v ≡ true
         where_open true e none = e
@@ -121,7 +131,9 @@ closing-told script before S s book alive none = by (server_in before s) (book.s
     ]
 
 -- all slots of a session are used, as told, where they are in the rows
-full-told : (script : Script) (before : List Entry) (S : State) (s : ObjNo) → Book script before S → IsSession S.serving.servers s → is_full_in script before s (slots_in script before s) ≡ is_full S.serving.messages s (slots_of S s)
+full-told : (script : Script) (before : List Entry) (S : State) (s : ObjNo) → Book script before S
+    → IsSession S.serving.servers s
+    → is_full_in script before s (slots_in script before s) ≡ is_full S.serving.messages s (slots_of S s)
 full-told script before S s book is =
     let row = session-row (session_at S.serving.servers s) is in
     let slots = row.0.slots in
@@ -129,7 +141,8 @@ full-told script before S s book is =
     let own : slots_of S s ≡ slots = ap slots_of_row row.1 in
     let used : used_in script before s slots ≡ used_slots S.serving.messages s slots =
     ap (λ (l : List SentOver). length (filter (takes_of script before s slots) l)) book.letters.sends
-    ∙ (used-is script before s slots S.serving.messages.outstanding (λ p there. (book.letters.known p there).slots) ∙ length-filter (takes_slot s slots) S.serving.messages.outstanding) in
+    ∙ (used-is script before s slots S.serving.messages.outstanding (λ p there. (book.letters.known p there).slots)
+    ∙ length-filter (takes_slot s slots) S.serving.messages.outstanding) in
     ap (is_full_in script before s) told
     ∙ (ap (λ (n : ℕ). n == all_slots script.pool slots) used
     ∙ (ap (λ (n : ℕ). used_slots S.serving.messages s slots == all_slots n slots) (sym book.slotted.pool) ∙ ap (is_full S.serving.messages s) (sym own)))
@@ -139,13 +152,18 @@ full-told script before S s book is =
     session-row (Some row) is = (row, refl)
 
 -- a thread is at the instruction of its place
-pub at-instruction : (script : Script) (before : List Entry) (S : State) (t : ObjNo) (row : ThreadRow) → Book script before S → thread_of S t ≡ Some row → instruction_in script before t ≡ instruction script row
+pub at-instruction : (script : Script) (before : List Entry) (S : State) (t : ObjNo) (row : ThreadRow)
+    → Book script before S → thread_of S t ≡ Some row → instruction_in script before t ≡ instruction script row
 at-instruction script before S t row book is =
     let p = book.served.places t.0 row is in
-    ap (at_place script (answers before t)) p.is ∙ (ap (λ (n : ℕ). slice_get (instructions_of script p.first.role) n) (sym p.place) ∙ ap (λ (r : Role). slice_get (instructions_of script r) row.next_instruction) p.role)
+    ap (at_place script (answers before t)) p.is
+    ∙ (ap (λ (n : ℕ). slice_get (instructions_of script p.first.role) n) (sym p.place)
+    ∙ ap (λ (r : Role). slice_get (instructions_of script r) row.next_instruction) p.role)
 
 -- the answer of a `send` that is refused, and of one that isn't
-refused-answer : (script : Script) (before : List Entry) (S : State) (place : ℕ) (t : ObjNo) (d : Decision) → AreRows script S → Book script before S → Looked script before S → accepts (tell t d.moves S) ≡ 0 → IsRefusal S t (instruction_in script before t) d → IsSendAnswer script before (entry_for place t S d)
+refused-answer : (script : Script) (before : List Entry) (S : State) (place : ℕ) (t : ObjNo) (d : Decision)
+    → AreRows script S → Book script before S → Looked script before S → accepts (tell t d.moves S) ≡ 0
+    → IsRefusal S t (instruction_in script before t) d → IsSendAnswer script before (entry_for place t S d)
 refused-answer script before S place t d rows book looked none r = record {
   thread = t;
   actor = refl;
@@ -179,7 +197,12 @@ refused-answer script before S place t d rows book looked none r = record {
     both : {A : Type 0} (f : Bool → Bool → A) {b c x y : Bool} → b ≡ x → c ≡ y → f b c ≡ f x y
     both f {b = b} {y = y} p q = ap (f b) q ∙ ap (λ z. f z y) p
 
-pub sent-answer : (script : Script) (before : List Entry) (S : State) (place : ℕ) (t : ObjNo) (d : Decision) (s v : ObjNo) → AreRows script S → Book script before S → Looked script before S → server_of S.serving.servers s ≡ Some v → is_closing S.serving.servers v ≡ false → accepts (tell t d.moves S) ≡ 1 → IsAnswered S t (instruction_in script before t) s (slots_of S s) d → IsSendAnswer script before (entry_for place t S d)
+pub sent-answer : (script : Script) (before : List Entry) (S : State) (place : ℕ) (t : ObjNo) (d : Decision)
+    (s v : ObjNo)
+    → AreRows script S → Book script before S → Looked script before S → server_of S.serving.servers s ≡ Some v
+    → is_closing S.serving.servers v ≡ false → accepts (tell t d.moves S) ≡ 1
+    → IsAnswered S t (instruction_in script before t) s (slots_of S s) d
+    → IsSendAnswer script before (entry_for place t S d)
 sent-answer script before S place t d s v rows book looked linked open_server_is one r =
     let told = accepting-told script before S s v rows book linked open_server_is in
     let full = full-told script before S s book (session-of s v linked) ∙ r.free in
@@ -188,7 +211,10 @@ sent-answer script before S place t d s v rows book looked linked open_server_is
       actor = refl;
       session = s;
       looked = looked t s r.over.row r.over.is (ap at_send (sym (at-instruction script before S t r.over.row book r.over.is)) ∙ r.over.here) r.over.uses;
-      answer = r.answer ∙ sym (ap (λ (b : Bool). Some (answer_of b (is_full_in script before s (slots_in script before s)))) told ∙ ap (λ (b : Bool). Some (answer_of true b)) full);
+      answer =
+          r.answer
+          ∙ sym (ap (λ (b : Bool). Some (answer_of b (is_full_in script before s (slots_in script before s)))) told
+          ∙ ap (λ (b : Bool). Some (answer_of true b)) full);
       accepted = one ∙ sym (ap (λ (b : Bool). accepted_of b (is_full_in script before s (slots_in script before s))) told ∙ ap (accepted_of true) full);
     }
   where
@@ -201,7 +227,9 @@ sent-answer script before S place t d s v rows book looked linked open_server_is
 
 module _ (script : Script) (before : List Entry) (S : State) (place : ℕ) (t : ObjNo) (rows : AreRows script S) (book : Book script before S) where
   -- servers after moves that leave them
-  pub served-doing : {k : Kinds} (d : Decision) → Doing script S t d.moves → total changing_bit d.moves ≡ 0 → IsRegular k script S t d → ClosesOthers S d → Detaches S d → Served script (reading (before ++ entry_for place t S d ∷ [])) (perform t d.moves S)
+  pub served-doing : {k : Kinds} (d : Decision) → Doing script S t d.moves → total changing_bit d.moves ≡ 0
+      → IsRegular k script S t d → ClosesOthers S d → Detaches S d
+      → Served script (reading (before ++ entry_for place t S d ∷ [])) (perform t d.moves S)
   served-doing d does none is closed detaches =
       let fs = tell t d.moves S in
       let k = keeps-doing script S t d.moves does rows (served-made script (reading before) S book.served) none in
@@ -211,19 +239,26 @@ module _ (script : Script) (before : List Entry) (S : State) (place : ℕ) (t : 
       (λ v. let a = is.dooms v in let b = doom-told t d.moves S v in omega arith) (λ v. doom-among t d.moves S v) lost_none is.making detaches)
     where
       lost_none : (v : ObjNo) (row : ServerRow) → server_at S.serving.servers v ≡ Some row → handles_lost (tell t d.moves S) v ≡ 0
-      lost_none v row there = zero_or (handles_lost (tell t d.moves S) v) (λ some. let most = lost-doing script S t d.moves v does rows in let gone = closed v (omega arith) in absurd (cc))
+      lost_none v row there = zero_or (handles_lost (tell t d.moves S) v)
+          (λ some. let most = lost-doing script S t d.moves v does rows in let gone = closed v (omega arith) in absurd (cc))
 
   -- nothing of servers and messages changes
-  pub turn-keeps : {k : Kinds} (d : Decision) → IsRegular k script S t d → Looked script before S → IsKeeping S t (instruction_in script before t) d → Doing script S t d.moves → IsTurn script before (entry_for place t S d) (perform t d.moves S)
+  pub turn-keeps : {k : Kinds} (d : Decision) → IsRegular k script S t d → Looked script before S
+      → IsKeeping S t (instruction_in script before t) d → Doing script S t d.moves
+      → IsTurn script before (entry_for place t S d) (perform t d.moves S)
   turn-keeps d regular looked is does =
       let k = keeps-doing script S t d.moves does rows (served-made script (reading before) S book.served) is.changing in
       let q = quiet-doing script S t d.moves does is.still in
       record {
         book = record {
           served = served-doing d does is.changing regular is.closed is.detaches;
-          letters = letters-quiet script before S (perform t d.moves S) (entry_for place t S d) book.letters (λ p among. k.unlinked p.session) q (λ p among. k.unended p.server);
+          letters =
+              letters-quiet script before S (perform t d.moves S) (entry_for place t S d) book.letters
+              (λ p among. k.unlinked p.session) q (λ p among. k.unended p.server);
           slotted = slotted-keeps script before (entry_for place t S d) S (perform t d.moves S) book.slotted k.unlinked k.slots q.pool;
           fresh = fresh-on before (entry_for place t S d) book.fresh (λ makes. k.unowned (regular.making makes));
         };
-        lawful = unserving script before (entry_for place t S d) q.accepts q.finishes k.unended (λ sends. refused-answer script before S place t d rows book looked q.accepts (is.send sends));
+        lawful =
+            unserving script before (entry_for place t S d) q.accepts q.finishes k.unended
+            (λ sends. refused-answer script before S place t d rows book looked q.accepts (is.send sends));
       }

@@ -42,11 +42,14 @@ pub holders-none : (S T : State) → ((g : Holder) (x : ObjNo) → held_in T g x
 holders-none S T stays = record { fits = tt; moves = λ g x. sym (stays g x) }
 
 -- a holder gets a reference
-pub holders-plus : (S T : State) (h : Holder) (o : ObjNo) → held_in S h o ≡ 0 → ((g : Holder) (x : ObjNo) → held_in T g x ≡ held_in S g x + same_pair h o g x) → HoldersMove S T (Plus h o ∷ [])
+pub holders-plus : (S T : State) (h : Holder) (o : ObjNo) → held_in S h o ≡ 0
+    → ((g : Holder) (x : ObjNo) → held_in T g x ≡ held_in S g x + same_pair h o g x) → HoldersMove S T (Plus h o ∷ [])
 holders-plus S T h o none more = record { fits = (none, tt); moves = λ g x. sym (more g x) }
 
 -- a holder gives one up
-pub holders-closed : (last : Bool) (S T : State) (h : Holder) (o : ObjNo) → ((g : Holder) (x : ObjNo) → held_in T g x + same_pair h o g x ≡ held_in S g x) → HoldersMove S T (closed_effects last h o)
+pub holders-closed : (last : Bool) (S T : State) (h : Holder) (o : ObjNo)
+    → ((g : Holder) (x : ObjNo) → held_in T g x + same_pair h o g x ≡ held_in S g x)
+    → HoldersMove S T (closed_effects last h o)
 holders-closed last S T h o less = closed last
   where
     some : 0 < held_in S h o

@@ -61,4 +61,6 @@ found_there {A} p (y ∷ ys) x found = by (p y) refl (found_there p ys x) found
 -- an item's part in a sum is at most the sum
 pub contains_total : {A : Type 0} (f : A → ℕ) (xs : List A) (x : A) → Contains xs x → f x ≤ total f xs
 contains_total f [] x h = absurd (none_contained x h)
-contains_total f (y ∷ ys) x h = contains_cases (λ z. f z ≤ f y + total f ys) y ys x h (omega arith) (λ z there. let a = contains_total f ys z there in omega arith)
+contains_total f (y ∷ ys) x h =
+    contains_cases (λ z. f z ≤ f y + total f ys) y ys x h (omega arith)
+    (λ z there. let a = contains_total f ys z there in omega arith)

@@ -30,12 +30,14 @@ below_at_most zero F c few = omega arith
 below_at_most (suc n) F c few = let a = few 0 in let b = below_at_most n (λ k. F (suc k)) c (λ k. few (suc k)) in omega arith
 
 -- a number for each item of a list, by places
-pub below_rows : {A : Type 0} (c : ℕ) (q : A → ℕ) (F : ℕ → ℕ) (xs : List A) (d : A) → ((k : ℕ) → F k ≤ c * q (get_or xs k d)) → below (length xs) F ≤ c * total q xs
+pub below_rows : {A : Type 0} (c : ℕ) (q : A → ℕ) (F : ℕ → ℕ) (xs : List A) (d : A)
+    → ((k : ℕ) → F k ≤ c * q (get_or xs k d)) → below (length xs) F ≤ c * total q xs
 below_rows c q F [] d few = omega arith
 below_rows c q F (x ∷ xs) d few = let a = few 0 in let b = below_rows c q (λ k. F (suc k)) xs d (λ k. few (suc k)) in omega arith
 
 -- A list whose items fall apart by a number below n: the sum over all is at most what the parts make together.
-pub parted : {A : Type 0} (f : A → ℕ) (F : ℕ → A → ℕ) (n : ℕ) (xs : List A) → ((x : A) → Contains xs x → f x ≤ below n (λ k. F k x)) → total f xs ≤ below n (λ k. total (F k) xs)
+pub parted : {A : Type 0} (f : A → ℕ) (F : ℕ → A → ℕ) (n : ℕ) (xs : List A)
+    → ((x : A) → Contains xs x → f x ≤ below n (λ k. F k x)) → total f xs ≤ below n (λ k. total (F k) xs)
 parted f F n [] each = let a = below-zero n (λ k. total (F k) []) (λ k. refl) in omega arith
 parted f F n (x ∷ xs) each =
     let a = each x (contains_first xs x) in

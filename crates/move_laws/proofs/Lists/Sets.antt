@@ -7,7 +7,8 @@ set_either_suc (inl h) = inl (ap suc h.0, h.1)
 set_either_suc (inr h) = inr h
 
 -- after a change at i there is the new item at i, and the old ones elsewhere
-pub set_either : {A : Type 0} (xs : List A) (i : ℕ) (y : A) (j : ℕ) (d : A) → ((j ≡ i) × (get_or (slice_set xs i y) j d ≡ y)) ⊎ (get_or (slice_set xs i y) j d ≡ get_or xs j d)
+pub set_either : {A : Type 0} (xs : List A) (i : ℕ) (y : A) (j : ℕ) (d : A)
+    → ((j ≡ i) × (get_or (slice_set xs i y) j d ≡ y)) ⊎ (get_or (slice_set xs i y) j d ≡ get_or xs j d)
 set_either [] i y j d = inr refl
 set_either (x ∷ xs) zero y zero d = inl (refl, refl)
 set_either (x ∷ xs) zero y (suc j) d = inr refl
@@ -15,7 +16,8 @@ set_either (x ∷ xs) (suc i) y zero d = inr refl
 set_either (x ∷ xs) (suc i) y (suc j) d = set_either_suc (set_either xs i y j d)
 
 -- a property of the items that a change keeps
-pub set_keeps : {A : Type 0} (P : A → Type 0) (xs : List A) (i : ℕ) (y : A) (d : A) → P y → ((j : ℕ) → P (get_or xs j d)) → (j : ℕ) → P (get_or (slice_set xs i y) j d)
+pub set_keeps : {A : Type 0} (P : A → Type 0) (xs : List A) (i : ℕ) (y : A) (d : A) → P y
+    → ((j : ℕ) → P (get_or xs j d)) → (j : ℕ) → P (get_or (slice_set xs i y) j d)
 set_keeps P xs i y d py each j = elim (set_either xs i y j d) [ inl h ↦ subst P (sym h.1) py | inr h ↦ subst P (sym h) (each j) ]
 
 -- an item that takes its own place changes nothing

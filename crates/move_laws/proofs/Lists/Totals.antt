@@ -37,7 +37,8 @@ inside (y ∷ ys) zero x h = omega arith
 inside (y ∷ ys) (suc i) x h = let r = inside ys i x h in omega arith
 
 -- another row, made from the old one
-pub total-with : {A : Type 0} (f : A → ℕ) (g : A → A) (d : A) (xs : List A) (i : ℕ) → f (g d) ≡ f d → total f (slice_set xs i (g (get_or xs i d))) + f (get_or xs i d) ≡ total f xs + f (g (get_or xs i d))
+pub total-with : {A : Type 0} (f : A → ℕ) (g : A → A) (d : A) (xs : List A) (i : ℕ) → f (g d) ≡ f d
+    → total f (slice_set xs i (g (get_or xs i d))) + f (get_or xs i d) ≡ total f xs + f (g (get_or xs i d))
 total-with f g d [] i h = omega arith
 total-with f g d (x ∷ xs) zero h = omega arith
 total-with f g d (x ∷ xs) (suc i) h = let r = total-with f g d xs i h in omega arith

@@ -49,7 +49,8 @@ bits_one : (row : Option ObjectRow) → is_dead row + swept_bit row ≡ gone_bit
 bits_one None = refl
 bits_one (Some row) = omega arith
 
-bits_at : (objects : List (Option ObjectRow)) (i : ℕ) → is_dead (get_or objects i None) + swept_bit (get_or objects i unmade) ≡ gone_bit (get_or objects i unmade)
+bits_at : (objects : List (Option ObjectRow)) (i : ℕ)
+    → is_dead (get_or objects i None) + swept_bit (get_or objects i unmade) ≡ gone_bit (get_or objects i unmade)
 bits_at [] i = refl
 bits_at (x ∷ xs) zero = bits_one x
 bits_at (x ∷ xs) (suc i) = bits_at xs i

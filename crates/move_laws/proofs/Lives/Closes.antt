@@ -21,19 +21,27 @@ use Rattle.move_laws.proofs.Lives.LivesMove.{LivesMove}
 use Rattle.move_laws.proofs.References.Same.{same_object, same_self, same_other, same_is, same_le}
 
 -- a number of a row, where another row takes its place: at the row it is the new one's, elsewhere it stays
-bit-set : (f : Option ObjectRow → ℕ) (objects : List (Option ObjectRow)) (o : ObjNo) (row : Option ObjectRow) (more : ℕ) → o.0 < length objects → f row ≡ f (get_or objects o.0 unmade) + more → (p : ObjNo) (times : ℕ) → (same o p ≡ 0 → times ≡ 0) → (same o p ≡ 1 → times ≡ more) → f (get_or (slice_set objects o.0 row) p.0 unmade) ≡ f (get_or objects p.0 unmade) + times
-bit-set f objects o row more inside new p times none once = elim (cases_eq o.0 p.0) as (λ _. f (get_or (slice_set objects o.0 row) p.0 unmade) ≡ f (get_or objects p.0 unmade) + times) [
-  | inl at ↦
-      let one : same o p ≡ 1 = ap (λ (y : ObjNo). same o y) (same_object p o (sym at)) ∙ same_self o in
-      let all = once one in
-      let a : f (get_or (slice_set objects o.0 row) p.0 unmade) ≡ f row = ap (λ (n : ℕ). f (get_or (slice_set objects o.0 row) n unmade)) (sym at) ∙ ap f (get_or-set_same objects o.0 row unmade inside) in
-      let b : f (get_or objects o.0 unmade) ≡ f (get_or objects p.0 unmade) = ap (λ (n : ℕ). f (get_or objects n unmade)) at in
-      omega arith
-  | inr apart ↦
-      let no = none (same_other o p apart) in
-      let a : f (get_or (slice_set objects o.0 row) p.0 unmade) ≡ f (get_or objects p.0 unmade) = ap f (get_or-set_other objects o.0 p.0 row unmade (λ q. apart (sym q))) in
-      omega arith
-]
+bit-set : (f : Option ObjectRow → ℕ) (objects : List (Option ObjectRow)) (o : ObjNo) (row : Option ObjectRow) (more : ℕ)
+    → o.0 < length objects → f row ≡ f (get_or objects o.0 unmade) + more → (p : ObjNo) (times : ℕ)
+    → (same o p ≡ 0 → times ≡ 0) → (same o p ≡ 1 → times ≡ more)
+    → f (get_or (slice_set objects o.0 row) p.0 unmade) ≡ f (get_or objects p.0 unmade) + times
+bit-set f objects o row more inside new p times none once =
+    elim (cases_eq o.0 p.0) as (λ _. f (get_or (slice_set objects o.0 row) p.0 unmade)
+    ≡ f (get_or objects p.0 unmade) + times) [
+      | inl at ↦
+          let one : same o p ≡ 1 = ap (λ (y : ObjNo). same o y) (same_object p o (sym at)) ∙ same_self o in
+          let all = once one in
+          let a : f (get_or (slice_set objects o.0 row) p.0 unmade) ≡ f row =
+          ap (λ (n : ℕ). f (get_or (slice_set objects o.0 row) n unmade)) (sym at)
+          ∙ ap f (get_or-set_same objects o.0 row unmade inside) in
+          let b : f (get_or objects o.0 unmade) ≡ f (get_or objects p.0 unmade) = ap (λ (n : ℕ). f (get_or objects n unmade)) at in
+          omega arith
+      | inr apart ↦
+          let no = none (same_other o p apart) in
+          let a : f (get_or (slice_set objects o.0 row) p.0 unmade) ≡ f (get_or objects p.0 unmade) =
+          ap f (get_or-set_other objects o.0 p.0 row unmade (λ q. apart (sym q))) in
+          omega arith
+    ]
 
 dead_row_gone : (row : Option ObjectRow) → gone_bit (dead_row row) ≡ 1
 dead_row_gone None = refl
@@ -62,13 +70,19 @@ dies_one true kept e = refl
 dies_one false kept e = absurd (cc)
 
 -- a living object has a reference less
-pub lives-closed : (last : Bool) (S T : State) (holder : Holder) (o : ObjNo) → dies S o ≡ last → IsAlive (object_of S o) → T.references.objects ≡ objects_closed last o S.references.objects → ((p : ObjNo) → count_of T p + same o p ≡ count_of S p) → ((p : ObjNo) → sweeps_of T p ≡ sweeps_of S p + deaths (closed_effects last holder o) p) → ((p : ObjNo) → outs_of T p ≡ outs_of S p) → LivesMove S T (closed_effects last holder o)
+pub lives-closed : (last : Bool) (S T : State) (holder : Holder) (o : ObjNo) → dies S o ≡ last → IsAlive (object_of S o)
+    → T.references.objects ≡ objects_closed last o S.references.objects
+    → ((p : ObjNo) → count_of T p + same o p ≡ count_of S p)
+    → ((p : ObjNo) → sweeps_of T p ≡ sweeps_of S p + deaths (closed_effects last holder o) p)
+    → ((p : ObjNo) → outs_of T p ≡ outs_of S p) → LivesMove S T (closed_effects last holder o)
 lives-closed false S T holder o e alive objects counts owed outs =
     let long : length T.references.objects ≡ length S.references.objects = ap length objects in
     record {
       counts = λ p. let a = counts p in omega arith;
       deads = λ p. let a : gone T.references.objects p ≡ gone S.references.objects p = ap (λ (os : List (Option ObjectRow)). gone os p) objects in omega arith;
-      sweeps = λ p. let a : swept T.references.objects p ≡ swept S.references.objects p = ap (λ (os : List (Option ObjectRow)). swept os p) objects in omega arith;
+      sweeps =
+          λ p. let a : swept T.references.objects p
+          ≡ swept S.references.objects p = ap (λ (os : List (Option ObjectRow)). swept os p) objects in omega arith;
       owed = λ p. let a = owed p in omega arith;
       last = λ p h. absurd (omega arith);
       counted = λ p there living some.
@@ -95,11 +109,16 @@ lives-closed true S T holder o e alive objects counts owed outs =
     let same_bit : swept_bit row ≡ swept_bit (get_or S.references.objects o.0 unmade) = ap swept_bit (sym (row_made S.references.objects o inside)) in
     let long : length T.references.objects ≡ length S.references.objects = ap length objects ∙ length-set S.references.objects o.0 (dead_row row) in
     let one : count_of S o ≡ 1 = eqb-true (count_of S o) 1 (dies_one (count_of S o == 1) (is_kept S o) e) in
-    let deads : (p : ObjNo) → gone T.references.objects p ≡ gone S.references.objects p + (same o p + 0) = λ p. ap (λ (os : List (Option ObjectRow)). gone os p) objects ∙ bit-set gone_bit S.references.objects o (dead_row row) 1 inside (omega arith) p (same o p + 0) (λ z. omega arith) (λ z. omega arith) in
+    let deads : (p : ObjNo) → gone T.references.objects p ≡ gone S.references.objects p + (same o p + 0) =
+    λ p. ap (λ (os : List (Option ObjectRow)). gone os p) objects
+    ∙ bit-set gone_bit S.references.objects o (dead_row row) 1 inside (omega arith) p (same o p + 0) (λ z. omega arith)
+    (λ z. omega arith) in
     record {
       counts = λ p. let a = counts p in omega arith;
       deads = deads;
-      sweeps = λ p. ap (λ (os : List (Option ObjectRow)). swept os p) objects ∙ bit-set swept_bit S.references.objects o (dead_row row) 0 inside (omega arith) p 0 (λ z. refl) (λ z. refl);
+      sweeps =
+          λ p. ap (λ (os : List (Option ObjectRow)). swept os p) objects
+          ∙ bit-set swept_bit S.references.objects o (dead_row row) 0 inside (omega arith) p 0 (λ z. refl) (λ z. refl);
       owed = λ p. let a = owed p in omega arith;
       last = λ p h.
           let at : o ≡ p = same_is o p (omega arith) in
@@ -119,14 +138,22 @@ dead_is_made : (objects : List (Option ObjectRow)) (o : ObjNo) → is_dead (get_
 dead_is_made objects o h = let a = gone_is objects o in let b = gone_le objects o in let c = swept_le objects o in (omega arith, omega arith)
 
 -- a dead object is swept
-pub lives-swept : (S T : State) (o : ObjNo) → o.0 < length S.references.objects → is_dead (object_of S o) ≡ 1 → T.references.objects ≡ slice_set S.references.objects o.0 None → ((p : ObjNo) → count_of T p ≡ count_of S p) → ((p : ObjNo) → sweeps_of T p + same o p ≡ sweeps_of S p) → ((p : ObjNo) → outs_of T p ≡ outs_of S p) → LivesMove S T (Swept o ∷ [])
+pub lives-swept : (S T : State) (o : ObjNo) → o.0 < length S.references.objects → is_dead (object_of S o) ≡ 1
+    → T.references.objects ≡ slice_set S.references.objects o.0 None → ((p : ObjNo) → count_of T p ≡ count_of S p)
+    → ((p : ObjNo) → sweeps_of T p + same o p ≡ sweeps_of S p) → ((p : ObjNo) → outs_of T p ≡ outs_of S p)
+    → LivesMove S T (Swept o ∷ [])
 lives-swept S T o inside dead objects counts owed outs =
     let was = dead_is_made S.references.objects o dead in
     let long : length T.references.objects ≡ length S.references.objects = ap length objects ∙ length-set S.references.objects o.0 None in
     record {
       counts = λ p. let a = counts p in omega arith;
-      deads = λ p. ap (λ (os : List (Option ObjectRow)). gone os p) objects ∙ bit-set gone_bit S.references.objects o None 0 inside (omega arith) p 0 (λ z. refl) (λ z. refl);
-      sweeps = λ p. ap (λ (os : List (Option ObjectRow)). swept os p) objects ∙ bit-set swept_bit S.references.objects o None 1 inside (omega arith) p (same o p + 0) (λ z. omega arith) (λ z. omega arith);
+      deads =
+          λ p. ap (λ (os : List (Option ObjectRow)). gone os p) objects
+          ∙ bit-set gone_bit S.references.objects o None 0 inside (omega arith) p 0 (λ z. refl) (λ z. refl);
+      sweeps =
+          λ p. ap (λ (os : List (Option ObjectRow)). swept os p) objects
+          ∙ bit-set swept_bit S.references.objects o None 1 inside (omega arith) p (same o p + 0) (λ z. omega arith)
+          (λ z. omega arith);
       owed = λ p. let a = owed p in omega arith;
       last = λ p h. absurd (omega arith);
       counted = λ p there living some. let a = counts p in let b = outs p in omega arith;

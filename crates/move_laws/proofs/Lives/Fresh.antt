@@ -16,7 +16,10 @@ next_fresh script S rows =
     record {
       object = get_or_past S.references.objects (next_object S).0 None (omega arith);
       thread = get_or_past S.references.threads (next_object S).0 None (omega arith);
-      count = zero_or (count_of S (next_object S)) (λ some. let made = (alive_not_gone S.references.objects (next_object S) (rows.lives.alive (next_object S) some)).1 in absurd (omega arith));
+      count =
+          zero_or (count_of S (next_object S)) (λ some.
+          let made = (alive_not_gone S.references.objects (next_object S) (rows.lives.alive (next_object S) some)).1 in
+          absurd (omega arith));
       owner = rows.synchronization.locks.owners_made (next_object S) (omega arith);
       waiters = rows.synchronization.locks.waiters_made (next_object S) (omega arith);
       session = rows.serving.servers.sessions_made (next_object S) (omega arith);

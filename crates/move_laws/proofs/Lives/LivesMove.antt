@@ -21,14 +21,16 @@ pub record LivesMove (S T : State) (effects : List Effect) : Type 0 where
   pub owed : (o : ObjNo) → sweeps_of T o + removals effects o ≡ sweeps_of S o + deaths effects o
   -- it dies only where its last reference is taken away; and while something refers to it, or somebody is out on it, that stays so until it is gone
   pub last : (o : ObjNo) → 0 < deaths effects o → (0 < minuses effects o) × (count_of T o ≡ 0)
-  pub counted : (o : ObjNo) → o.0 < length S.references.objects → gone T.references.objects o ≡ 0 → 0 < count_of S o + outs_of S o → 0 < count_of T o + outs_of T o
+  pub counted : (o : ObjNo) → o.0 < length S.references.objects → gone T.references.objects o ≡ 0
+      → 0 < count_of S o + outs_of S o → 0 < count_of T o + outs_of T o
   -- nothing opens an object that is gone, and only what is gone is swept
   pub opens : (o : ObjNo) → 0 < pluses effects o → (gone S.references.objects o ≡ 0) × (o.0 < length T.references.objects)
   pub removes : (o : ObjNo) → 0 < removals effects o → gone S.references.objects o ≡ 1
   -- only an object that was made is found; something refers to a new one, or somebody is out on it, until it is gone
   pub found : (o : ObjNo) → 0 < finds effects o → o.0 < length T.references.objects
   pub made : length S.references.objects ≤ length T.references.objects
-  pub born : (o : ObjNo) → length S.references.objects ≤ o.0 → o.0 < length T.references.objects → gone T.references.objects o ≡ 0 → 0 < count_of T o + outs_of T o
+  pub born : (o : ObjNo) → length S.references.objects ≤ o.0 → o.0 < length T.references.objects
+      → gone T.references.objects o ≡ 0 → 0 < count_of T o + outs_of T o
 
 pub zero_or : (n : ℕ) → (0 < n → ⊥) → n ≡ 0
 zero_or n h = elim (cases_lt 0 n) [ inl lt ↦ absurd (h lt) | inr le ↦ omega arith ]
@@ -75,7 +77,8 @@ lives-then S T U es fs l m none = record {
 }
 
 -- each object that was made and isn't gone has a reference, or somebody is out on it
-there-kept : (S T : State) (effects : List Effect) → LivesMove S T effects → AreLives S → (o : ObjNo) → o.0 < length T.references.objects → gone T.references.objects o ≡ 0 → 0 < count_of T o + outs_of T o
+there-kept : (S T : State) (effects : List Effect) → LivesMove S T effects → AreLives S → (o : ObjNo)
+    → o.0 < length T.references.objects → gone T.references.objects o ≡ 0 → 0 < count_of T o + outs_of T o
 there-kept S T effects l h o made alive =
     let moved = l.deads o in
     elim (cases_lt o.0 (length S.references.objects)) as (λ _. 0 < count_of T o + outs_of T o) [
@@ -84,7 +87,8 @@ there-kept S T effects l h o made alive =
     ]
 
 -- so one of which a reference is taken away dies where neither is left
-pub lives-dies : (S T : State) (effects : List Effect) → LivesMove S T effects → AreLives S → (o : ObjNo) → 0 < minuses effects o → count_of T o + outs_of T o ≡ 0 → 0 < deaths effects o
+pub lives-dies : (S T : State) (effects : List Effect) → LivesMove S T effects → AreLives S → (o : ObjNo)
+    → 0 < minuses effects o → count_of T o + outs_of T o ≡ 0 → 0 < deaths effects o
 lives-dies S T effects l h o minus none = elim (cases_lt 0 (deaths effects o)) as (λ _. 0 < deaths effects o) [
   | inl some ↦ some
   | inr not ↦

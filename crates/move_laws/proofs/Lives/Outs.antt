@@ -17,11 +17,14 @@ SeeksSame threads other = (o : ObjNo) → total (seeks o) other ≡ total (seeks
 abbrev pub KeepsSeeks : (ThreadRow → ThreadRow) → ThreadRow → Type 0
 KeepsSeeks f row = (o : ObjNo) → seeks o (Some (f row)) ≡ seeks o (Some row)
 
-map_seeks : (x : Option ThreadRow) (f : ThreadRow → ThreadRow) (o : ObjNo) → ((row : ThreadRow) → x ≡ Some row → KeepsSeeks f row) → seeks o (option_map f x) ≡ seeks o x
+map_seeks : (x : Option ThreadRow) (f : ThreadRow → ThreadRow) (o : ObjNo)
+    → ((row : ThreadRow) → x ≡ Some row → KeepsSeeks f row) → seeks o (option_map f x) ≡ seeks o x
 map_seeks None f o keeps = refl
 map_seeks (Some row) f o keeps = keeps row refl o
 
-pub seeks-with_row : (threads : List (Option ThreadRow)) (u : ObjNo) (f : ThreadRow → ThreadRow) → ((row : ThreadRow) → get_or threads u.0 None ≡ Some row → KeepsSeeks f row) → SeeksSame threads (with_row threads u f)
+pub seeks-with_row : (threads : List (Option ThreadRow)) (u : ObjNo) (f : ThreadRow → ThreadRow)
+    → ((row : ThreadRow) → get_or threads u.0 None ≡ Some row → KeepsSeeks f row)
+    → SeeksSame threads (with_row threads u f)
 seeks-with_row threads u f keeps o =
     let a = total-with (seeks o) (option_map f) None threads u.0 refl in
     let b = map_seeks (get_or threads u.0 None) f o keeps in omega arith
@@ -44,5 +47,6 @@ out-more true m n k h = h
 out-more false m n k h = omega arith
 
 -- so as many are out
-pub outs-same : (S : State) (other : List (Option ThreadRow)) → SeeksSame S.references.threads other → (o : ObjNo) → (if S.mode.shared then total (seeks o) other else 0) ≡ outs_of S o
+pub outs-same : (S : State) (other : List (Option ThreadRow)) → SeeksSame S.references.threads other → (o : ObjNo)
+    → (if S.mode.shared then total (seeks o) other else 0) ≡ outs_of S o
 outs-same S other seek o = out-same S.mode.shared (total (seeks o) other) (total (seeks o) S.references.threads) (seek o)

@@ -51,9 +51,19 @@ use Rattle.move_laws.proofs.RowLaws.Servers.{servers-detach}
 use Rattle.move_laws.proofs.RowLaws.ServersKept.{servers-kept, servers-more}
 
 -- the rows in the middle of a close of an object: a holder's reference to it isn't there any more
-pub record HasLost (script : Script) (S : State) (t : ObjNo) (h : Holder) (o : ObjNo) (handles : List (List HandleSlot)) (threads : List (Option ThreadRow)) (owed : List (List Owed)) (servers : ServerRows) (owned : List (List ObjNo)) : Type 0 where
-  pub counts : (p : ObjNo) → count_of (record S { references = record S.references { handles = handles; threads = threads; owed = owed }; serving = record S.serving { servers = servers; owned = owned } }) p + same o p ≡ count_of S p
-  pub held : (g : Holder) (x : ObjNo) → held_in (record S { references = record S.references { handles = handles; threads = threads; owed = owed }; serving = record S.serving { servers = servers; owned = owned } }) g x + same_pair h o g x ≡ held_in S g x
+pub record HasLost (script : Script) (S : State) (t : ObjNo) (h : Holder) (o : ObjNo) (handles : List (List HandleSlot))
+    (threads : List (Option ThreadRow)) (owed : List (List Owed)) (servers : ServerRows)
+    (owned : List (List ObjNo)) : Type 0 where
+  pub counts : (p : ObjNo)
+      → count_of (record S {
+        references = record S.references { handles = handles; threads = threads; owed = owed };
+        serving = record S.serving { servers = servers; owned = owned };
+      }) p + same o p ≡ count_of S p
+  pub held : (g : Holder) (x : ObjNo)
+      → held_in (record S {
+        references = record S.references { handles = handles; threads = threads; owed = owed };
+        serving = record S.serving { servers = servers; owned = owned };
+      }) g x + same_pair h o g x ≡ held_in S g x
   pub sweeps : (p : ObjNo) → total (total (owed_sweeps p)) owed ≡ sweeps_of S p
   pub link : link_or (link_of_row (get_or threads o.0 None)) (server_of servers o) ≡ link_of S o
   pub handles_long : length handles ≡ length S.references.handles
@@ -66,7 +76,9 @@ pub record HasLost (script : Script) (S : State) (t : ObjNo) (h : Holder) (o : O
   pub synchronization : LeavesSynchronization script S threads owed
   pub services : AreServiceRows threads S.services
   pub spent : AreSpent S.references.objects handles threads
-  pub serving : AreServingRows (length S.references.objects) threads S.synchronization.locks (IsUntold S.synchronization.requests S.synchronization.logons) (record S.serving { servers = servers; owned = owned })
+  pub serving : AreServingRows (length S.references.objects) threads S.synchronization.locks
+      (IsUntold S.synchronization.requests S.synchronization.logons)
+      (record S.serving { servers = servers; owned = owned })
   pub going : is_returning (part_of (get_or threads t.0 None)) ≡ false
   pub few : total weight (get_or owed t.0 []) + total weight (owed_by_close (dies S o) o (link_of S o)) ≤ 12
 
@@ -74,16 +86,22 @@ pub record HasLost (script : Script) (S : State) (t : ObjNo) (h : Holder) (o : O
 abbrev unlinked : ThreadRow → ThreadRow
 unlinked row = record row { link = None }
 
-without_link : (x : Option ThreadRow) (p : ObjNo) → (thread_names p (option_map unlinked x) + option_names p (link_of_row x) ≡ thread_names p x) × (use_names p (option_map unlinked x) ≡ use_names p x) × (link_names p (option_map unlinked x) ≡ 0) × (link_names p x ≡ option_names p (link_of_row x))
+without_link : (x : Option ThreadRow) (p : ObjNo)
+    → (thread_names p (option_map unlinked x) + option_names p (link_of_row x) ≡ thread_names p x)
+    × (use_names p (option_map unlinked x) ≡ use_names p x) × (link_names p (option_map unlinked x) ≡ 0)
+    × (link_names p x ≡ option_names p (link_of_row x))
 without_link None p = (refl, refl, refl, refl)
 without_link (Some row) p = (omega arith, refl, refl, refl)
 
 -- what is owed of it
-link_owed : (o : ObjNo) (link : Option ObjNo) (p : ObjNo) → (total (owed_names p) (owed_link o link ++ Sweep o ∷ []) ≡ option_names p link) × (total (owed_sweeps p) (owed_link o link ++ Sweep o ∷ []) ≡ same o p)
+link_owed : (o : ObjNo) (link : Option ObjNo) (p : ObjNo)
+    → (total (owed_names p) (owed_link o link ++ Sweep o ∷ []) ≡ option_names p link)
+    × (total (owed_sweeps p) (owed_link o link ++ Sweep o ∷ []) ≡ same o p)
 link_owed o None p = (refl, omega arith)
 link_owed o (Some x) p = (omega arith, omega arith)
 
-link_owed_by : (o : ObjNo) (link : Option ObjNo) (g : Holder) (x : ObjNo) → total (owed_by g x) (owed_link o link ++ Sweep o ∷ []) ≡ (if is_holder (Link o) g then option_names x link else 0)
+link_owed_by : (o : ObjNo) (link : Option ObjNo) (g : Holder) (x : ObjNo)
+    → total (owed_by g x) (owed_link o link ++ Sweep o ∷ []) ≡ (if is_holder (Link o) g then option_names x link else 0)
 link_owed_by o None g x = sym (if_zero (is_holder (Link o) g) 0 refl)
 link_owed_by o (Some p) g x = omega arith
 
@@ -108,9 +126,14 @@ linked_session (Some row) p e = refl
 names_link : (a b : Option ObjNo) (p : ObjNo) → (a ≡ None) ⊎ (b ≡ None) → option_names p (link_or a b) ≡ option_names p a + option_names p b
 names_link None b p one = omega arith
 names_link (Some x) None p one = omega arith
-names_link (Some x) (Some y) p one = elim one as (λ _. option_names p (link_or (Some x) (Some y)) ≡ option_names p (Some x) + option_names p (Some y)) [ inl e ↦ absurd (cc) | inr e ↦ absurd (cc) ]
+names_link (Some x) (Some y) p one =
+    elim one as (λ _. option_names p (link_or (Some x) (Some y)) ≡ option_names p (Some x) + option_names p (Some y))
+    [ inl e ↦ absurd (cc) | inr e ↦ absurd (cc) ]
 
-one_link : (objects : ℕ) (threads : List (Option ThreadRow)) (locks : LockRows) (owned : List (List ObjNo)) (servers : ServerRows) (o : ObjNo) → AreServers (λ row. is_spent row.stage) objects threads locks owned servers → (link_of_row (get_or threads o.0 None) ≡ None) ⊎ (server_of servers o ≡ None)
+one_link : (objects : ℕ) (threads : List (Option ThreadRow)) (locks : LockRows) (owned : List (List ObjNo))
+    (servers : ServerRows) (o : ObjNo)
+    → AreServers (λ row. is_spent row.stage) objects threads locks owned servers
+    → (link_of_row (get_or threads o.0 None) ≡ None) ⊎ (server_of servers o ≡ None)
 one_link objects threads locks owned servers o h = elim (cases_lt o.0 (length threads)) [
   | inl inside ↦ inr (ap link_of_session (h.sessions_later o inside))
   | inr past ↦ inl (ap link_of_row (get_or_past threads o.0 None past))
@@ -123,8 +146,11 @@ record MayLink (threads other : List (Option ThreadRow)) (servers new : ServerRo
   pub sessions_none : (x : ObjNo) → session_at servers x ≡ None → session_at new x ≡ None
   pub sessions_some : (x : ObjNo) → IsSession servers x → IsSession new x
 
-may_owe_link : (script : Script) (objects : ℕ) (threads other : List (Option ThreadRow)) (locks : LockRows) (owned : List (List ObjNo)) (servers new : ServerRows) (accepted : ℕ) (t o : ObjNo) (a b link : Option ObjNo) → link_of_row (get_or threads o.0 None) ≡ a → server_of servers o ≡ b → link_or a b ≡ link
-    → AreThreads script threads → AreServers (λ row. is_spent row.stage) objects threads locks owned servers → MayLink threads other servers new → EachMayOwe other new accepted t.0 (owed_link o link ++ Sweep o ∷ [])
+may_owe_link : (script : Script) (objects : ℕ) (threads other : List (Option ThreadRow)) (locks : LockRows)
+    (owned : List (List ObjNo)) (servers new : ServerRows) (accepted : ℕ) (t o : ObjNo) (a b link : Option ObjNo)
+    → link_of_row (get_or threads o.0 None) ≡ a → server_of servers o ≡ b → link_or a b ≡ link
+    → AreThreads script threads → AreServers (λ row. is_spent row.stage) objects threads locks owned servers
+    → MayLink threads other servers new → EachMayOwe other new accepted t.0 (owed_link o link ++ Sweep o ∷ [])
 may_owe_link script objects threads other locks owned servers new accepted t o a b None ea eb e h s m = tt
 may_owe_link script objects threads other locks owned servers new accepted t o (Some q) b (Some p) ea eb e h s m =
     let own : q ≡ p = cc in
@@ -133,13 +159,23 @@ may_owe_link script objects threads other locks owned servers new accepted t o (
     let process = (h.rows o.0 r.0 r.1).process in
     let inside_o = inside threads o.0 r.0 r.1 in
     let long = m.long in
-    let free : IsUnlinked other new q × MayBeLinked other new o =
-    ((m.threads_none q.0 (subst (λ (n : ℕ). get_or threads n None ≡ None) (sym at) (h.processes o.0 r.0 r.1)), m.sessions_none q (s.sessions_later q (omega arith))), λ past. absurd (omega arith)) in
+    let free : IsUnlinked other new q × MayBeLinked other new o = (
+      (
+        m.threads_none q.0 (subst (λ (n : ℕ). get_or threads n None ≡ None) (sym at) (h.processes o.0 r.0 r.1)),
+        m.sessions_none q (s.sessions_later q (omega arith)),
+      ),
+      λ past. absurd (omega arith),
+    ) in
     (subst (λ (y : ObjNo). IsUnlinked other new y × MayBeLinked other new o) own free, tt)
 may_owe_link script objects threads other locks owned servers new accepted t o None (Some q) (Some p) ea eb e h s m =
     let own : q ≡ p = cc in
-    let free = s.unlinked q (s.sessions o q eb) in
-    (subst (λ (y : ObjNo). IsUnlinked other new y × MayBeLinked other new o) own ((m.threads_none q.0 free.0, m.sessions_none q free.1), λ past. m.sessions_some o (linked_session (session_at servers o) q eb)), tt)
+    let free = s.unlinked q (s.sessions o q eb) in (
+      subst (λ (y : ObjNo). IsUnlinked other new y × MayBeLinked other new o) own (
+        (m.threads_none q.0 free.0, m.sessions_none q free.1),
+        λ past. m.sessions_some o (linked_session (session_at servers o) q eb),
+      ),
+      tt,
+    )
 may_owe_link script objects threads other locks owned servers new accepted t o None None (Some p) ea eb e h s m = absurd (cc)
 
 open_detached : (x : Option SessionRow) → (open_bit (option_map detached x) ≡ open_bit x) × (session_bit (option_map detached x) ≡ session_bit x)
@@ -147,17 +183,35 @@ open_detached None = (refl, refl)
 open_detached (Some row) = (refl, refl)
 
 -- a session that is detached is open, or isn't, as before
-pub detached_bits : (threads : List (Option ThreadRow)) (servers : ServerRows) (outstanding : List Message) (o : ObjNo) → (sessions_used threads (after_detach servers o) outstanding ≡ sessions_used threads servers outstanding) × (sessions_there (after_detach servers o) ≡ sessions_there servers)
+pub detached_bits : (threads : List (Option ThreadRow)) (servers : ServerRows) (outstanding : List Message) (o : ObjNo)
+    → (sessions_used threads (after_detach servers o) outstanding ≡ sessions_used threads servers outstanding)
+    × (sessions_there (after_detach servers o) ≡ sessions_there servers)
 detached_bits threads servers outstanding o =
     let a = total-with open_bit (option_map detached) None servers.sessions o.0 refl in
     let b = total-with session_bit (option_map detached) None servers.sessions o.0 refl in
     let c = open_detached (get_or servers.sessions o.0 None) in
     let d = c.0 in let e = c.1 in (omega arith, omega arith)
 
-pub sound-closed : (last : Bool) (script : Script) (S : State) (t : ObjNo) (h : Holder) (o : ObjNo) (handles : List (List HandleSlot)) (threads : List (Option ThreadRow)) (owed : List (List Owed)) (servers : ServerRows) (owned : List (List ObjNo)) → dies S o ≡ last → t.0 < length S.references.threads → HasLost script S t h o handles threads owed servers owned → AreRows script S
-    → Sound script S (record S { references = record S.references { objects = objects_closed last o S.references.objects; handles = handles; threads = threads_closed last o threads; owed = owing owed t (owed_by_close last o (link_of S o)) }; serving = record S.serving { servers = servers_closed last o servers; owned = owned } }) (closed_effects last h o)
+pub sound-closed : (last : Bool) (script : Script) (S : State) (t : ObjNo) (h : Holder) (o : ObjNo)
+    (handles : List (List HandleSlot)) (threads : List (Option ThreadRow)) (owed : List (List Owed))
+    (servers : ServerRows) (owned : List (List ObjNo))
+    → dies S o ≡ last → t.0 < length S.references.threads → HasLost script S t h o handles threads owed servers owned
+    → AreRows script S
+    → Sound script S (record S {
+      references = record S.references {
+        objects = objects_closed last o S.references.objects;
+        handles = handles;
+        threads = threads_closed last o threads;
+        owed = owing owed t (owed_by_close last o (link_of S o));
+      };
+      serving = record S.serving { servers = servers_closed last o servers; owned = owned };
+    }) (closed_effects last h o)
 sound-closed false script S t h o handles threads owed servers owned e inside_t lost rows =
-    let T : State = record S { references = record S.references { handles = handles; threads = threads; owed = owing owed t [] }; serving = record S.serving { servers = servers; owned = owned } } in
+    let T : State = record S {
+      references = record S.references
+          { handles = handles; threads = threads; owed = owing owed t [] };
+      serving = record S.serving { servers = servers; owned = owned };
+    } in
     let here : t.0 < length owed = let a = rows.references.sized.duties in let b = lost.owed_long in omega arith in
     let few = lost.duties.few t.0 in
     let alive : IsAlive (object_of S o) = rows.lives.alive o (let a = lost.counts o in let b = same_self o in omega arith) in
@@ -169,7 +223,10 @@ sound-closed false script S t h o handles threads owed servers owned e inside_t 
       tables = lost.tables;
       threads = lost.threads_are;
       duties = duties-owing threads servers S.serving.messages.accepted owed t [] tt (omega arith) lost.going lost.duties;
-      synchronization = synchronization-left script S (length S.references.objects) threads (owing owed t []) (omega arith) (synchronization-then script S threads owed (owing owed t []) lost.synchronization (leaves-owing threads owed t [] S.synchronization.locks (λ u x. refl))) rows;
+      synchronization =
+          synchronization-left script S (length S.references.objects) threads (owing owed t []) (omega arith)
+          (synchronization-then script S threads owed (owing owed t []) lost.synchronization
+          (leaves-owing threads owed t [] S.synchronization.locks (λ u x. refl))) rows;
       services = lost.services;
       spent = lost.spent;
       serving = lost.serving;
@@ -186,40 +243,88 @@ sound-closed true script S t h o handles threads owed servers owned e inside_t l
     let new = after_detach servers o in
     let old = get_or threads o.0 None in
     let objects = slice_set S.references.objects o.0 (dead_row (get_or S.references.objects o.0 None)) in
-    let T : State = record S { references = record S.references { objects = objects; handles = handles; threads = other; owed = owing owed t more }; serving = record S.serving { servers = new; owned = owned } } in
+    let T : State = record S {
+      references = record S.references
+          { objects = objects; handles = handles; threads = other; owed = owing owed t more };
+      serving = record S.serving { servers = new; owned = owned };
+    } in
     let here : t.0 < length owed = let a = rows.references.sized.duties in let b = lost.owed_long in omega arith in
-    let few : total weight (get_or owed t.0 []) + total weight more ≤ 12 = subst (λ (last : Bool). total weight (get_or owed t.0 []) + total weight (owed_by_close last o link) ≤ 12) e lost.few in
+    let few : total weight (get_or owed t.0 []) + total weight more ≤ 12 =
+    subst (λ (last : Bool). total weight (get_or owed t.0 []) + total weight (owed_by_close last o link) ≤ 12) e
+    lost.few in
     let alive : IsAlive (object_of S o) = rows.lives.alive o (let a = lost.counts o in let b = same_self o in omega arith) in
     let named : (p : ObjNo) → option_names p (link_of_row old) + option_names p (server_of servers o) ≡ option_names p link = λ p.
-    let a = names_link (link_of_row old) (server_of servers o) p (one_link (length S.references.objects) threads S.synchronization.locks owned servers o lost.serving.servers) in
+    let a = names_link (link_of_row old) (server_of servers o) p
+    (one_link (length S.references.objects) threads S.synchronization.locks owned servers o lost.serving.servers) in
     let b = ap (option_names p) lost.link in omega arith in
-    let may : MayLink threads other servers new = record { long = length-with_row threads o f; threads_none = none-with_row threads o f; sessions_none = λ x none. mapped-none detached servers.sessions o.0 x.0 none; sessions_some = λ x is. mapped-some detached servers.sessions o.0 x.0 ∙ is } in
+    let may : MayLink threads other servers new = record {
+      long = length-with_row threads o f;
+      threads_none = none-with_row threads o f;
+      sessions_none = λ x none. mapped-none detached servers.sessions o.0 x.0 none;
+      sessions_some = λ x is. mapped-some detached servers.sessions o.0 x.0 ∙ is;
+    } in
     let bits = detached_bits other servers S.serving.messages.outstanding o in
     let used = bits.0 in let there = bits.1 in
-    let kept = messages-kept (IsUntold S.synchronization.requests S.synchronization.logons) threads servers S.serving.messages o f (record { live = λ row live. live; waits = λ row live. refl; sends = λ row. omega arith; left = λ row. omega arith }) lost.serving.messages in
+    let kept = messages-kept (IsUntold S.synchronization.requests S.synchronization.logons) threads servers
+    S.serving.messages o f (record {
+      live = λ row live. live;
+      waits = λ row live. refl;
+      sends = λ row. omega arith;
+      left = λ row. omega arith;
+    }) lost.serving.messages in
     sound-of script S T (closed_effects true h o) rows (record {
       handles_long = lost.handles_long;
       threads_long = length-with_row threads o f ∙ lost.threads_long;
       owed_long = length-set owed t.0 _ ∙ lost.owed_long;
-      objects_few = let a = length-set S.references.objects o.0 (dead_row (get_or S.references.objects o.0 None)) in let b = rows.references.sized.objects_few in omega arith;
+      objects_few =
+          let a = length-set S.references.objects o.0 (dead_row (get_or S.references.objects o.0 None)) in
+          let b = rows.references.sized.objects_few in
+          omega arith;
       tables = lost.tables;
       threads = threads-with_row script threads o f (λ row is r. record {
-        thread = record { process = r.process; link = λ p linked. cc; priority = r.priority; next_instruction = r.next_instruction; unused = r.unused; registers = r.registers; declared = r.declared; returns = r.returns };
+        thread = record {
+          process = r.process;
+          link = λ p linked. cc;
+          priority = r.priority;
+          next_instruction = r.next_instruction;
+          unused = r.unused;
+          registers = r.registers;
+          declared = r.declared;
+          returns = r.returns;
+        };
         process = refl;
         role = refl;
       }) lost.threads_are;
       duties = duties-owing other new S.serving.messages.accepted owed t more
-          (may_owe_link script (length S.references.objects) threads other S.synchronization.locks owned servers new S.serving.messages.accepted t o (link_of_row old) (server_of servers o) link refl refl lost.link lost.threads_are lost.serving.servers may) few ((paid-with_row threads o f (λ row r. r) t.0).going lost.going)
-          (duties-servers other servers new S.serving.messages.accepted S.serving.messages.accepted owed (omega arith) (λ x _. may.sessions_none x) may.sessions_some
+          (may_owe_link script (length S.references.objects) threads other S.synchronization.locks owned servers new
+          S.serving.messages.accepted t o (link_of_row old)
+          (server_of servers o) link refl refl lost.link lost.threads_are lost.serving.servers may) few
+          ((paid-with_row threads o f (λ row r. r) t.0).going lost.going)
+          (duties-servers other servers new S.serving.messages.accepted S.serving.messages.accepted owed (omega arith)
+          (λ x _. may.sessions_none x) may.sessions_some
           (duties-threads threads other servers S.serving.messages.accepted owed (λ k. inr (paid-with_row threads o f (λ row r. r) k)) lost.duties));
-      synchronization = synchronization-left script S (length T.references.objects) other (owing owed t more) (let a = length-set S.references.objects o.0 (dead_row (get_or S.references.objects o.0 None)) in omega arith)
-          (synchronization-then script S other owed (owing owed t more) (synchronization-row script S threads owed o f (λ row r. r) (λ row. refl) (λ row. refl) lost.synchronization) (leaves-owing other owed t more S.synchronization.locks (link_unowned o link))) rows;
+      synchronization =
+          synchronization-left script S (length T.references.objects) other (owing owed t more)
+          (let a = length-set S.references.objects o.0 (dead_row (get_or S.references.objects o.0 None)) in omega arith)
+          (synchronization-then script S other owed (owing owed t more)
+          (synchronization-row script S threads owed o f (λ row r. r) (λ row. refl) (λ row. refl) lost.synchronization)
+          (leaves-owing other owed t more S.synchronization.locks (link_unowned o link))) rows;
       services = services-row threads o f S.services (λ row is. refl) lost.services;
       spent = spent-died S.references.objects handles threads o (dead_row (get_or S.references.objects o.0 None)) lost.spent;
       serving = record {
-        servers = servers-more (λ row. is_spent row.stage) (length S.references.objects) (length objects) other S.synchronization.locks owned new (let a = length-set S.references.objects o.0 (dead_row (get_or S.references.objects o.0 None)) in omega arith)
-            (servers-detach (λ row. is_spent row.stage) (length S.references.objects) other S.synchronization.locks owned servers o (servers-kept (λ row. is_spent row.stage) (length S.references.objects) threads S.synchronization.locks owned servers o f (λ row. refl) (λ row. refl) lost.serving.servers));
-        messages = messages-sessions (IsUntold S.synchronization.requests S.synchronization.logons) other servers new S.serving.messages may.sessions_some (let a = kept.few in omega arith) (let a = kept.numbered in omega arith) kept;
+        servers =
+            servers-more (λ row. is_spent row.stage) (length S.references.objects)
+            (length objects) other S.synchronization.locks owned new
+            (let a = length-set S.references.objects o.0 (dead_row (get_or S.references.objects o.0 None)) in omega arith)
+            (servers-detach (λ row. is_spent row.stage)
+            (length S.references.objects) other S.synchronization.locks owned servers o
+            (servers-kept (λ row. is_spent row.stage)
+            (length S.references.objects) threads S.synchronization.locks owned servers o f (λ row. refl)
+            (λ row. refl) lost.serving.servers));
+        messages =
+            messages-sessions (IsUntold S.synchronization.requests S.synchronization.logons) other servers new
+            S.serving.messages may.sessions_some (let a = kept.few in omega arith)
+            (let a = kept.numbered in omega arith) kept;
       };
     })
     (lives-closed true S T h o e alive refl
@@ -237,9 +342,15 @@ sound-closed true script S t h o handles threads owed servers owned e inside_t l
     (holders-closed true S T h o (λ g x.
     let a = rows-with_row handles threads S.synchronization.mutexes o f g x (λ row is. refl) in
     let n = without_link old x in
-    let b : (if is_holder (Temp o) g then use_names x (option_map f old) else 0) ≡ (if is_holder (Temp o) g then use_names x old else 0) = ap (λ (y : ℕ). if is_holder (Temp o) g then y else 0) n.1 in
+    let b : (if is_holder (Temp o) g then use_names x (option_map f old) else 0)
+    ≡ (if is_holder (Temp o) g then use_names x old else 0) =
+    ap (λ (y : ℕ). if is_holder (Temp o) g then y else 0) n.1 in
     let c = if_zero (is_holder (Link o) g) (link_names x (option_map f old)) n.2 in
-    let d : (if is_holder (Link o) g then link_names x old else 0) + (if is_holder (Link o) g then option_names x (server_of servers o) else 0) ≡ (if is_holder (Link o) g then option_names x link else 0) = if_both (is_holder (Link o) g) (link_names x old) (option_names x (server_of servers o)) (option_names x link) (let m = n.3 in let q = named x in omega arith) in
+    let d : (if is_holder (Link o) g then link_names x old else 0) +
+    (if is_holder (Link o) g then option_names x (server_of servers o) else 0)
+    ≡ (if is_holder (Link o) g then option_names x link else 0) =
+    if_both (is_holder (Link o) g) (link_names x old) (option_names x (server_of servers o)) (option_names x link)
+    (let m = n.3 in let q = named x in omega arith) in
     let s = holds-detached owned servers.sessions S.serving.messages.outstanding o g x in
     let i = total-owing (owed_by g x) owed t more here in
     let j = link_owed_by o link g x in

@@ -48,18 +48,32 @@ length-overwritten : (at : ℕ) (piece bytes : List ℕ) → at + length piece �
 length-overwritten at piece bytes within = simp (length-append, length-take, length-drop) (omega arith)
 
 -- a piece is copied
-pub memories-copied : (threads : List (Option ThreadRow)) (memories : List (Option (List ℕ))) (from to : Place) (count : ℕ) → to.at + count ≤ 1024 → AreMemories threads memories → AreMemories threads (copied memories from to count)
+pub memories-copied : (threads : List (Option ThreadRow)) (memories : List (Option (List ℕ))) (from to : Place)
+    (count : ℕ)
+    → to.at + count ≤ 1024 → AreMemories threads memories → AreMemories threads (copied memories from to count)
 memories-copied threads memories from to count within h =
     let piece : List ℕ = bytes_from memories from count in
     let few = bytes_long memories from count in
-    memories-changed threads memories to.process (overwritten to.at piece) (λ bytes long. let same = length-overwritten to.at piece bytes (omega arith) in omega arith) h
+    memories-changed threads memories to.process (overwritten to.at piece)
+    (λ bytes long. let same = length-overwritten to.at piece bytes (omega arith) in omega arith) h
 
 -- the memories change, and the length of a message's argument
-sound-resized : (script : Script) (S : State) (memories : List (Option (List ℕ))) (m : MsgNo) (arg size : ℕ) → AreMemories S.references.threads memories → AreRows script S → Sound script S (record S { services = record S.services { memories = memories }; serving = record S.serving { messages = after_set_length S.serving.messages m arg size } }) []
+sound-resized : (script : Script) (S : State) (memories : List (Option (List ℕ))) (m : MsgNo) (arg size : ℕ)
+    → AreMemories S.references.threads memories → AreRows script S
+    → Sound script S (record S {
+      services = record S.services { memories = memories };
+      serving = record S.serving { messages = after_set_length S.serving.messages m arg size };
+    }) []
 sound-resized script S memories m arg size kept rows =
-    let T : State = record S { services = record S.services { memories = memories }; serving = record S.serving { messages = after_set_length S.serving.messages m arg size } } in
-    let stays : (f : Message → ℕ) → ((message : Message) → f (record message { row = resized arg size message.row }) ≡ f message) → total f T.serving.messages.outstanding ≡ total f S.serving.messages.outstanding = λ f keeps.
-    edited-total (IsUntold S.synchronization.requests S.synchronization.logons) S.references.threads S.serving.servers S.serving.messages m (resized arg size) (λ row. refl) (λ row. refl) (λ row. refl) f keeps in
+    let T : State = record S {
+      services = record S.services { memories = memories };
+      serving = record S.serving { messages = after_set_length S.serving.messages m arg size };
+    } in
+    let stays : (f : Message → ℕ) → ((message : Message) → f (record message { row = resized arg size message.row })
+    ≡ f message) → total f T.serving.messages.outstanding ≡ total f S.serving.messages.outstanding =
+    λ f keeps.
+    edited-total (IsUntold S.synchronization.requests S.synchronization.logons) S.references.threads S.serving.servers
+    S.serving.messages m (resized arg size) (λ row. refl) (λ row. refl) (λ row. refl) f keeps in
     sound-of script S T [] rows (record {
       handles_long = refl;
       threads_long = refl;
@@ -71,12 +85,21 @@ sound-resized script S memories m arg size kept rows =
       synchronization = rows.synchronization;
       services = record { memories = kept };
       spent = rows.references.spent;
-      serving = record { servers = rows.serving.servers; messages = messages-edited (IsUntold S.synchronization.requests S.synchronization.logons) S.references.threads S.serving.servers S.serving.messages m (resized arg size) (λ row. refl) (λ row. refl) (λ row. refl) rows.serving.messages };
+      serving = record {
+        servers = rows.serving.servers;
+        messages =
+            messages-edited (IsUntold S.synchronization.requests S.synchronization.logons) S.references.threads
+            S.serving.servers S.serving.messages m (resized arg size) (λ row. refl) (λ row. refl)
+            (λ row. refl) rows.serving.messages;
+      };
     })
     (lives-none S T refl (λ o. let a = stays (message_names o) (λ x. refl) in omega arith) (λ o. refl) (λ o. refl))
-    (holders-none S T (λ g x. let a = holds-same S.serving.owned S.serving.servers.sessions S.serving.messages.outstanding T.serving.messages.outstanding g x (λ n. stays (message_holds n x) (λ y. refl)) in omega arith))
+    (holders-none S T (λ g x. let a = holds-same S.serving.owned S.serving.servers.sessions
+    S.serving.messages.outstanding T.serving.messages.outstanding g x (λ n. stays (message_holds n x) (λ y. refl)) in
+    omega arith))
 
-pub sound-copies : (script : Script) (S : State) (t : ObjNo) (m : CopyMove) → FitsMove script t (Copies m) S → AreRows script S → Sound script S (moved t (Copies m) S) (told (Copies m) S)
+pub sound-copies : (script : Script) (S : State) (t : ObjNo) (m : CopyMove) → FitsMove script t (Copies m) S
+    → AreRows script S → Sound script S (moved t (Copies m) S) (told (Copies m) S)
 sound-copies script S t (Read job) fits rows = by (read_refusal ends job) refl
   where
     ends : Ends
@@ -85,9 +108,18 @@ sound-copies script S t (Read job) fits rows = by (read_refusal ends job) refl
     after : List (Option (List ℕ))
     after = copied S.services.memories (client_place ends job) (caller_place ends job) (piece_size (read_size ends job) job.done)
 
-    by : (refusal : Option Piece) → read_refusal ends job ≡ refusal → Sound script S (record S { services = record S.services { memories = unless_refused refusal S.services.memories after } }) []
+    by : (refusal : Option Piece) → read_refusal ends job ≡ refusal
+        → Sound script S (record S {
+          services = record S.services
+              { memories = unless_refused refusal S.services.memories after };
+        }) []
     by (Some refusal) is = sound-none script S rows
-    by None is = sound-services script S (record S.services { memories = after }) (record { memories = memories-copied S.references.threads S.services.memories (client_place ends job) (caller_place ends job) (piece_size (read_size ends job) job.done) (read_within ends job is fits.done) rows.services.memories }) rows
+    by None is = sound-services script S (record S.services { memories = after })
+        (record {
+          memories = memories-copied S.references.threads S.services.memories (client_place ends job)
+              (caller_place ends job) (piece_size (read_size ends job) job.done)
+              (read_within ends job is fits.done) rows.services.memories;
+        }) rows
 sound-copies script S t (Write job) fits rows = by (write_refusal ends job) refl
   where
     ends : Ends
@@ -96,20 +128,39 @@ sound-copies script S t (Write job) fits rows = by (write_refusal ends job) refl
     after : List (Option (List ℕ))
     after = copied S.services.memories (caller_place ends job) (client_place ends job) (piece_size (write_size job) job.done)
 
-    last : (goes_on : Bool) → AreMemories S.references.threads after → Sound script S (record S { services = record S.services { memories = after }; serving = record S.serving { messages = if goes_on then S.serving.messages else after_set_length S.serving.messages job.m job.arg (job.offset + job.len) } }) []
+    last : (goes_on : Bool) → AreMemories S.references.threads after
+        → Sound script S (record S {
+          services = record S.services { memories = after };
+          serving = record S.serving {
+            messages = if goes_on then S.serving.messages else after_set_length S.serving.messages
+                job.m job.arg (job.offset + job.len);
+          };
+        }) []
     last true kept = sound-services script S (record S.services { memories = after }) (record { memories = kept }) rows
     last false kept = sound-resized script S after job.m job.arg (job.offset + job.len) kept rows
 
-    by : (refusal : Option Piece) → write_refusal ends job ≡ refusal → Sound script S (record S { services = record S.services { memories = unless_refused refusal S.services.memories after }; serving = record S.serving { messages = unless_refused refusal S.serving.messages (with_length_set S.serving.messages job) } }) []
+    by : (refusal : Option Piece) → write_refusal ends job ≡ refusal
+        → Sound script S (record S {
+          services = record S.services
+              { memories = unless_refused refusal S.services.memories after };
+          serving = record S.serving {
+            messages = unless_refused refusal S.serving.messages
+                (with_length_set S.serving.messages job);
+          };
+        }) []
     by (Some refusal) is = sound-none script S rows
-    by None is = last (nat_lt (done_after (write_size job) job.done) (write_size job)) (memories-copied S.references.threads S.services.memories (caller_place ends job) (client_place ends job) (piece_size (write_size job) job.done) (write_within ends job is fits.done) rows.services.memories)
+    by None is = last (nat_lt (done_after (write_size job) job.done) (write_size job))
+        (memories-copied S.references.threads S.services.memories (caller_place ends job) (client_place ends job)
+        (piece_size (write_size job) job.done) (write_within ends job is fits.done) rows.services.memories)
 
 -- a piece accepts no message
 pub copy_accepts : (m : CopyMove) (threads : List (Option ThreadRow)) (r : MessageRows) → (messages_copied m threads r).accepted ≡ r.accepted
 copy_accepts (Read job) threads r = refl
 copy_accepts (Write job) threads r = by (write_refusal (ends_of threads r job) job) (nat_lt (done_after (write_size job) job.done) (write_size job))
   where
-    by : (refusal : Option Piece) (goes_on : Bool) → (unless_refused refusal r (if goes_on then r else after_set_length r job.m job.arg (job.offset + job.len))).accepted ≡ r.accepted
+    by : (refusal : Option Piece) (goes_on : Bool)
+        → (unless_refused refusal r (if goes_on then r else after_set_length r job.m job.arg
+        (job.offset + job.len))).accepted ≡ r.accepted
     by (Some refusal) goes_on = refl
     by None true = refl
     by None false = refl

@@ -23,12 +23,17 @@ pub record LeavesSynchronization (script : Script) (S : State) (threads : List (
   pub awaited : AreAwaited threads S.synchronization.requests S.synchronization.logons
 
 -- then the conditions of the group hold, also with more objects
-pub synchronization-left : (script : Script) (S : State) (count : ℕ) (threads : List (Option ThreadRow)) (owed : List (List Owed)) → length S.references.objects ≤ count → LeavesSynchronization script S threads owed → AreRows script S → AreSynchronizationRows script (length S.references.threads) count threads owed S.synchronization
+pub synchronization-left : (script : Script) (S : State) (count : ℕ) (threads : List (Option ThreadRow))
+    (owed : List (List Owed))
+    → length S.references.objects ≤ count → LeavesSynchronization script S threads owed → AreRows script S
+    → AreSynchronizationRows script (length S.references.threads) count threads owed S.synchronization
 synchronization-left script S count threads owed more leaves rows = record {
   nano = leaves.nano;
   deferred = rows.synchronization.deferred;
   requests = rows.synchronization.requests;
-  locks = locks-left (length S.references.objects) count S.references.threads threads S.synchronization.mutexes S.references.owed owed S.synchronization.locks more leaves.locks rows.synchronization.locks;
+  locks =
+      locks-left (length S.references.objects) count S.references.threads threads S.synchronization.mutexes
+      S.references.owed owed S.synchronization.locks more leaves.locks rows.synchronization.locks;
   logons = rows.synchronization.logons;
   awaited = leaves.awaited;
 }
@@ -42,7 +47,10 @@ synchronization-same script S rows = record {
 }
 
 -- and so do other duties after it
-pub synchronization-then : (script : Script) (S : State) (threads : List (Option ThreadRow)) (owed duties : List (List Owed)) → LeavesSynchronization script S threads owed → LeavesLocks threads threads owed duties S.synchronization.locks → LeavesSynchronization script S threads duties
+pub synchronization-then : (script : Script) (S : State) (threads : List (Option ThreadRow))
+    (owed duties : List (List Owed))
+    → LeavesSynchronization script S threads owed → LeavesLocks threads threads owed duties S.synchronization.locks
+    → LeavesSynchronization script S threads duties
 synchronization-then script S threads owed duties h leaves = record {
   nano = h.nano;
   locks = leaves-then S.references.threads threads threads S.references.owed owed duties S.synchronization.locks h.locks leaves;
@@ -50,21 +58,40 @@ synchronization-then script S threads owed duties h leaves = record {
 }
 
 -- and a change of one row that leaves its stage and what it waits for
-pub synchronization-row : (script : Script) (S : State) (threads : List (Option ThreadRow)) (owed : List (List Owed)) (u : ObjNo) (f : ThreadRow → ThreadRow) → ((row : ThreadRow) → IsHolding row → IsHolding (f row)) → ((row : ThreadRow) → (f row).stage ≡ row.stage) → ((row : ThreadRow) → (f row).waiting ≡ row.waiting) → LeavesSynchronization script S threads owed → LeavesSynchronization script S (with_row threads u f) owed
+pub synchronization-row : (script : Script) (S : State) (threads : List (Option ThreadRow)) (owed : List (List Owed))
+    (u : ObjNo) (f : ThreadRow → ThreadRow)
+    → ((row : ThreadRow) → IsHolding row → IsHolding (f row)) → ((row : ThreadRow) → (f row).stage ≡ row.stage)
+    → ((row : ThreadRow) → (f row).waiting ≡ row.waiting) → LeavesSynchronization script S threads owed
+    → LeavesSynchronization script S (with_row threads u f) owed
 synchronization-row script S threads owed u f holding stage waits h = record {
   nano = synchronized-with_row script threads u f S.synchronization.nano holding h.nano;
-  locks = leaves-then S.references.threads threads (with_row threads u f) S.references.owed owed owed S.synchronization.locks h.locks (leaves-with_row threads u f owed S.synchronization.locks waits);
+  locks =
+      leaves-then S.references.threads threads
+      (with_row threads u f) S.references.owed owed owed S.synchronization.locks h.locks
+      (leaves-with_row threads u f owed S.synchronization.locks waits);
   awaited = awaited-kept threads u f S.synchronization.requests S.synchronization.logons stage waits h.awaited;
 }
 
 -- such a change of a row of the state
-pub synchronization-kept : (script : Script) (S : State) (u : ObjNo) (f : ThreadRow → ThreadRow) → ((row : ThreadRow) → IsHolding row → IsHolding (f row)) → ((row : ThreadRow) → (f row).stage ≡ row.stage) → ((row : ThreadRow) → (f row).waiting ≡ row.waiting) → AreRows script S → LeavesSynchronization script S (with_row S.references.threads u f) S.references.owed
-synchronization-kept script S u f holding stage waits rows = synchronization-row script S S.references.threads S.references.owed u f holding stage waits (synchronization-same script S rows)
+pub synchronization-kept : (script : Script) (S : State) (u : ObjNo) (f : ThreadRow → ThreadRow)
+    → ((row : ThreadRow) → IsHolding row → IsHolding (f row)) → ((row : ThreadRow) → (f row).stage ≡ row.stage)
+    → ((row : ThreadRow) → (f row).waiting ≡ row.waiting) → AreRows script S
+    → LeavesSynchronization script S (with_row S.references.threads u f) S.references.owed
+synchronization-kept script S u f holding stage waits rows =
+    synchronization-row script S S.references.threads S.references.owed u f holding stage waits
+    (synchronization-same script S rows)
 
 -- what the kernel keeps for processes, where a thread's row changes but for its process
-pub services-row : (threads : List (Option ThreadRow)) (u : ObjNo) (f : ThreadRow → ThreadRow) (r : Services) → ((row : ThreadRow) → get_or threads u.0 None ≡ Some row → (f row).process ≡ row.process) → AreServiceRows threads r → AreServiceRows (with_row threads u f) r
+pub services-row : (threads : List (Option ThreadRow)) (u : ObjNo) (f : ThreadRow → ThreadRow) (r : Services)
+    → ((row : ThreadRow) → get_or threads u.0 None ≡ Some row → (f row).process ≡ row.process)
+    → AreServiceRows threads r → AreServiceRows (with_row threads u f) r
 services-row threads u f r process h = record { memories = memories-with_row threads u f r.memories process h.memories }
 
 -- servers and messages with more objects
-pub serving-more : (objects more : ℕ) (threads : List (Option ThreadRow)) (locks : LockRows) (untold : ObjNo → ℕ → Type 0) (r : Serving) → objects ≤ more → AreServingRows objects threads locks untold r → AreServingRows more threads locks untold r
-serving-more objects more threads locks untold r le h = record { servers = servers-more (λ row. is_spent row.stage) objects more threads locks r.owned r.servers le h.servers; messages = h.messages }
+pub serving-more : (objects more : ℕ) (threads : List (Option ThreadRow)) (locks : LockRows)
+    (untold : ObjNo → ℕ → Type 0) (r : Serving)
+    → objects ≤ more → AreServingRows objects threads locks untold r → AreServingRows more threads locks untold r
+serving-more objects more threads locks untold r le h = record {
+  servers = servers-more (λ row. is_spent row.stage) objects more threads locks r.owned r.servers le h.servers;
+  messages = h.messages;
+}

@@ -59,16 +59,35 @@ parts S = record { rows = S.synchronization.locks; mutexes = S.synchronization.m
 
 -- that a thread takes or gives a mutex tells of no reference and no death
 silent-take : (S : State) (t o : ObjNo) → IsSilent S (Take t (Object o) ∷ [])
-silent-take S t o = record { quiet = record { minuses = λ p. refl; deaths = λ p. refl; removals = λ p. refl }; pluses = λ p. refl; found = λ p h. absurd (omega arith); fits = (tt, tt); after = λ g x. refl }
+silent-take S t o = record {
+  quiet = record { minuses = λ p. refl; deaths = λ p. refl; removals = λ p. refl };
+  pluses = λ p. refl;
+  found = λ p h. absurd (omega arith);
+  fits = (tt, tt);
+  after = λ g x. refl;
+}
 
 silent-give : (S : State) (t o : ObjNo) → IsSilent S (Give t (Object o) ∷ [])
-silent-give S t o = record { quiet = record { minuses = λ p. refl; deaths = λ p. refl; removals = λ p. refl }; pluses = λ p. refl; found = λ p h. absurd (omega arith); fits = (tt, tt); after = λ g x. refl }
+silent-give S t o = record {
+  quiet = record { minuses = λ p. refl; deaths = λ p. refl; removals = λ p. refl };
+  pluses = λ p. refl;
+  found = λ p h. absurd (omega arith);
+  fits = (tt, tt);
+  after = λ g x. refl;
+}
 
 silent-pass : (S : State) (t w o : ObjNo) → IsSilent S (Give t (Object o) ∷ Take w (Object o) ∷ [])
-silent-pass S t w o = record { quiet = record { minuses = λ p. refl; deaths = λ p. refl; removals = λ p. refl }; pluses = λ p. refl; found = λ p h. absurd (omega arith); fits = (tt, (tt, tt)); after = λ g x. refl }
+silent-pass S t w o = record {
+  quiet = record { minuses = λ p. refl; deaths = λ p. refl; removals = λ p. refl };
+  pluses = λ p. refl;
+  found = λ p h. absurd (omega arith);
+  fits = (tt, (tt, tt));
+  after = λ g x. refl;
+}
 
 -- it is told before a change
-sound-told : (script : Script) (S T : State) (es fs : List Effect) → IsSilent S es → ((p : ObjNo) → removals fs p ≡ 0) → AreRows script S → Sound script S T fs → Sound script S T (es ++ fs)
+sound-told : (script : Script) (S T : State) (es fs : List Effect) → IsSilent S es → ((p : ObjNo) → removals fs p ≡ 0)
+    → AreRows script S → Sound script S T fs → Sound script S T (es ++ fs)
 sound-told script S T es fs quiet none rows sound = sound-then script S S T es fs (sound-silent script S es quiet rows) sound none
 
 -- mutexes, duties and the rows of mutexes and semaphores change
@@ -80,9 +99,16 @@ record ArePassed (script : Script) (S : State) (mutexes : List (List ObjNo)) (ow
   pub sweeps : (p : ObjNo) → total (total (owed_sweeps p)) owed ≡ sweeps_of S p
 
 abbrev passing : State → List (List ObjNo) → List (List Owed) → LockRows → State
-passing S mutexes owed new = record S { synchronization = record S.synchronization { mutexes = mutexes; locks = new }; references = record S.references { owed = owed } }
+passing S mutexes owed new = record S {
+  synchronization = record S.synchronization { mutexes = mutexes; locks = new };
+  references = record S.references { owed = owed };
+}
 
-sound-passed : (script : Script) (S : State) (mutexes : List (List ObjNo)) (owed : List (List Owed)) (new : LockRows) (effects : List Effect) → ArePassed script S mutexes owed new → LivesMove S (passing S mutexes owed new) effects → HoldersMove S (passing S mutexes owed new) effects → AreRows script S → Sound script S (passing S mutexes owed new) effects
+sound-passed : (script : Script) (S : State) (mutexes : List (List ObjNo)) (owed : List (List Owed)) (new : LockRows)
+    (effects : List Effect)
+    → ArePassed script S mutexes owed new → LivesMove S (passing S mutexes owed new) effects
+    → HoldersMove S (passing S mutexes owed new) effects → AreRows script S
+    → Sound script S (passing S mutexes owed new) effects
 sound-passed script S mutexes owed new effects h lives holders rows = sound-of script S (passing S mutexes owed new) effects rows (record {
   handles_long = refl;
   threads_long = refl;
@@ -101,14 +127,25 @@ sound-passed script S mutexes owed new effects h lives holders rows = sound-of s
   };
   services = rows.services;
   spent = rows.references.spent;
-  serving = record { servers = servers-locks (λ row. is_spent row.stage) (length S.references.objects) S.references.threads S.synchronization.locks new S.serving.owned S.serving.servers h.unlocked rows.serving.servers; messages = rows.serving.messages };
+  serving = record {
+    servers =
+        servers-locks (λ row. is_spent row.stage)
+        (length S.references.objects) S.references.threads S.synchronization.locks new S.serving.owned S.serving.servers
+        h.unlocked rows.serving.servers;
+    messages = rows.serving.messages;
+  };
 }) lives holders
 
 -- the rows of mutexes and semaphores change alone
-sound-alone : (script : Script) (S : State) (new : LockRows) → AreLocks (length S.references.objects) S.references.threads S.synchronization.mutexes S.references.owed new → ((o : ObjNo) → IsServer S.serving.servers o → owner_at new o ≡ None) → AreRows script S → Sound script S (record S { synchronization = record S.synchronization { locks = new } }) []
+sound-alone : (script : Script) (S : State) (new : LockRows)
+    → AreLocks (length S.references.objects) S.references.threads S.synchronization.mutexes S.references.owed new
+    → ((o : ObjNo) → IsServer S.serving.servers o → owner_at new o ≡ None) → AreRows script S
+    → Sound script S (record S { synchronization = record S.synchronization { locks = new } }) []
 sound-alone script S new locks unlocked rows =
     let T = passing S S.synchronization.mutexes S.references.owed new in
-    sound-passed script S S.synchronization.mutexes S.references.owed new [] (record { long = refl; duties = rows.references.duties; locks = locks; unlocked = unlocked; sweeps = λ p. refl }) (lives-none S T refl (λ o. refl) (λ o. refl) (λ o. refl)) (holders-none S T (λ g x. refl)) rows
+    sound-passed script S S.synchronization.mutexes S.references.owed new []
+    (record { long = refl; duties = rows.references.duties; locks = locks; unlocked = unlocked; sweeps = λ p. refl })
+    (lives-none S T refl (λ o. refl) (λ o. refl) (λ o. refl)) (holders-none S T (λ g x. refl)) rows
 
 -- a mutex is taken exactly where it is free
 pub taken_free : (owner : Option Owner) (t : ObjNo) → Taken ≡ lock_answer owner t → owner ≡ None
@@ -150,7 +187,8 @@ pub passed_by : (owner : Option Owner) (t w : ObjNo) (best : Option ObjNo) → P
 passed_by None t w best e = absurd (cc)
 passed_by (Some v) t w best e = by (v.thread.0 == t.0) (nat_lt 1 v.level) refl e
   where
-    by : (b more : Bool) → (v.thread.0 == t.0) ≡ b → Passed w ≡ (if b then (if more then Level else passed best) else NotOwner) → IsOwn (Some v) t × (best ≡ Some w)
+    by : (b more : Bool) → (v.thread.0 == t.0) ≡ b → Passed w
+        ≡ (if b then (if more then Level else passed best) else NotOwner) → IsOwn (Some v) t × (best ≡ Some w)
     by true true at e = absurd (cc)
     by true false at e = (record { own = v; is = refl; thread = eqb-true v.thread.0 t.0 at }, passed_best best w e)
     by false more at e = absurd (cc)
@@ -158,53 +196,102 @@ passed_by (Some v) t w best e = by (v.thread.0 == t.0) (nat_lt 1 v.level) refl e
 may_stand : (S : State) (t o : ObjNo) → MayJoin S o t → MayStand S.references.threads S.references.owed t o
 may_stand S t o joins = record { waits = joins.waits; paid = ap (total (owed_by (Own t) o)) joins.paid }
 
-sound-lock : (script : Script) (S : State) (t o u : ObjNo) (locked : Locked) → MayLock S o u locked → AreRows script S → Sound script S (moved t (Locks (Lock o u locked)) S) (lock_told (Lock o u locked))
-sound-lock script S t o u Again may rows = sound-alone script S _ (locks-again (length S.references.objects) S.references.threads (parts S) rows.synchronization.locks rows.references.sized.objects_few o (alive_not_gone S.references.objects o (rows.lives.alive o may.counted)).1 u)
-    (unlocked-set S.synchronization.locks S.serving.servers o _ (λ is none. ap (λ (w : Option Owner). owner_after_lock w u Again) none) rows.serving.servers.unlocked) rows
-sound-lock script S t o u Waits may rows = sound-alone script S _ (locks-waits (length S.references.objects) S.references.threads (parts S) rows.synchronization.locks rows.references.sized.objects_few o (alive_not_gone S.references.objects o (rows.lives.alive o may.counted)).1 u (may_stand S u o (may.joins refl)))
-    (unlocked-set S.synchronization.locks S.serving.servers o _ (λ is none. ap (λ (w : Option Owner). owner_after_lock w u Waits) none) rows.serving.servers.unlocked) rows
+sound-lock : (script : Script) (S : State) (t o u : ObjNo) (locked : Locked) → MayLock S o u locked → AreRows script S
+    → Sound script S (moved t (Locks (Lock o u locked)) S) (lock_told (Lock o u locked))
+sound-lock script S t o u Again may rows =
+    sound-alone script S _ (locks-again (length S.references.objects) S.references.threads
+    (parts S) rows.synchronization.locks rows.references.sized.objects_few o
+    (alive_not_gone S.references.objects o (rows.lives.alive o may.counted)).1 u)
+    (unlocked-set S.synchronization.locks S.serving.servers o _
+    (λ is none. ap (λ (w : Option Owner). owner_after_lock w u Again) none) rows.serving.servers.unlocked) rows
+sound-lock script S t o u Waits may rows =
+    sound-alone script S _ (locks-waits (length S.references.objects) S.references.threads
+    (parts S) rows.synchronization.locks rows.references.sized.objects_few o
+    (alive_not_gone S.references.objects o (rows.lives.alive o may.counted)).1 u (may_stand S u o (may.joins refl)))
+    (unlocked-set S.synchronization.locks S.serving.servers o _
+    (λ is none. ap (λ (w : Option Owner). owner_after_lock w u Waits) none) rows.serving.servers.unlocked) rows
 sound-lock script S t o u Taken may rows =
     let made = (alive_not_gone S.references.objects o (rows.lives.alive o may.counted)).1 in
     let free = taken_free (owner_at S.synchronization.locks o) u may.answer in
-    let there : u.0 < length S.synchronization.mutexes = let a = thread_inside S.references.threads u.0 may.thread in let b = rows.synchronization.locks.mutexes_sized in omega arith in
+    let there : u.0 < length S.synchronization.mutexes = let a = thread_inside S.references.threads u.0 may.thread in
+    let b = rows.synchronization.locks.mutexes_sized in
+    omega arith in
     let mutexes = holding S.synchronization.mutexes u o in
     let new = after_lock S.synchronization.locks o u Taken in
     let T = passing S mutexes S.references.owed new in
     let few = rows.references.sized.objects_few in
     let none : held_in S (Own u) o ≡ 0 =
     let a = none_held (length S.references.objects) S.references.threads (parts S) rows.synchronization.locks few o made free u in
-    let b = none_owed_by S.references.threads S.serving.servers S.serving.messages.accepted S.references.owed u (Own u) o rows.references.duties (λ k y own. own) (ap (total (owed_by (Own u) o)) may.paid) in
-    let c = unowned-other (λ row. is_spent row.stage) (length S.references.objects) S.references.threads S.synchronization.locks S.serving.owned S.serving.servers u o may.other rows.serving.servers in omega arith in
+    let b = none_owed_by S.references.threads S.serving.servers S.serving.messages.accepted S.references.owed u
+    (Own u) o rows.references.duties (λ k y own. own) (ap (total (owed_by (Own u) o)) may.paid) in
+    let c = unowned-other (λ row. is_spent row.stage)
+    (length S.references.objects) S.references.threads S.synchronization.locks S.serving.owned S.serving.servers u o
+    may.other rows.serving.servers in
+    omega arith in
     sound-told script S T (Take u (Object o) ∷ []) (Plus (Own u) o ∷ []) (silent-take S u o) (λ p. refl) rows
     (sound-passed script S mutexes S.references.owed new (Plus (Own u) o ∷ [])
-    (record { long = refl; duties = rows.references.duties; locks = locks-taken (length S.references.objects) S.references.threads (parts S) rows.synchronization.locks few o made u free there; unlocked = unlocked-set S.synchronization.locks S.serving.servers o _ (λ is none. let no : is_some (server_at S.serving.servers o) ≡ false = ap is_some may.other in absurd (cc)) rows.serving.servers.unlocked; sweeps = λ p. refl })
-    (lives-plus S T (Own u) o refl (λ p. let a = count-holding S.synchronization.mutexes u o p there in omega arith) (λ p. refl) (λ p. omega arith) (rows.lives.alive o may.counted))
-    (holders-plus S T (Own u) o none (λ g x. let a = rows-holding S.references.handles S.references.threads S.synchronization.mutexes u o there g x in omega arith)) rows)
+    (record {
+      long = refl;
+      duties = rows.references.duties;
+      locks = locks-taken (length S.references.objects) S.references.threads
+          (parts S) rows.synchronization.locks few o made u free there;
+      unlocked = unlocked-set S.synchronization.locks S.serving.servers o _
+          (λ is none. let no : is_some (server_at S.serving.servers o) ≡ false = ap is_some may.other in
+          absurd (cc)) rows.serving.servers.unlocked;
+      sweeps = λ p. refl;
+    })
+    (lives-plus S T (Own u) o refl (λ p. let a = count-holding S.synchronization.mutexes u o p there in omega arith)
+    (λ p. refl) (λ p. omega arith) (rows.lives.alive o may.counted))
+    (holders-plus S T (Own u) o none (λ g x. let a = rows-holding S.references.handles S.references.threads
+    S.synchronization.mutexes u o there g x in omega arith)) rows)
 
 -- who gives a mutex up owes the close of its ownership
-duties-close : (script : Script) (S : State) (t o : ObjNo) → Gives S o t → total weight (owed_of S t) + 4 ≤ 12 → AreRows script S → AreDuties S.references.threads S.serving.servers S.serving.messages.accepted (owing S.references.owed t (Close (Own t) o ∷ []))
-duties-close script S t o may few rows = duties-owing S.references.threads S.serving.servers S.serving.messages.accepted S.references.owed t (Close (Own t) o ∷ []) (refl, tt) (omega arith) may.going rows.references.duties
+duties-close : (script : Script) (S : State) (t o : ObjNo) → Gives S o t → total weight (owed_of S t) + 4 ≤ 12
+    → AreRows script S
+    → AreDuties S.references.threads S.serving.servers S.serving.messages.accepted
+    (owing S.references.owed t (Close (Own t) o ∷ []))
+duties-close script S t o may few rows =
+    duties-owing S.references.threads S.serving.servers S.serving.messages.accepted S.references.owed t
+    (Close (Own t) o ∷ []) (refl, tt) (omega arith) may.going rows.references.duties
 
-sound-freed : (script : Script) (S : State) (t o : ObjNo) → Gives S o t → total weight (owed_of S t) + 4 ≤ 12 → AreRows script S → Sound script S (moved t (Locks (Unlock o t Freed)) S) (lock_told (Unlock o t Freed))
+sound-freed : (script : Script) (S : State) (t o : ObjNo) → Gives S o t → total weight (owed_of S t) + 4 ≤ 12
+    → AreRows script S → Sound script S (moved t (Locks (Unlock o t Freed)) S) (lock_told (Unlock o t Freed))
 sound-freed script S t o may few rows =
     let own = may.owns in
     let inside_threads = thread_inside S.references.threads t.0 may.thread in
     let there : t.0 < length S.synchronization.mutexes = let b = rows.synchronization.locks.mutexes_sized in omega arith in
     let owes : t.0 < length S.references.owed = let a = rows.references.sized.duties in omega arith in
     let small = rows.references.sized.objects_few in
-    let once = held_once (length S.references.objects) S.references.threads (parts S) rows.synchronization.locks small o may.object t own.own own.is own.thread there (may.nowhere o) in
+    let once = held_once (length S.references.objects) S.references.threads
+    (parts S) rows.synchronization.locks small o may.object t own.own own.is own.thread there (may.nowhere o) in
     let mutexes = not_holding S.synchronization.mutexes t o in
     let owed = owing S.references.owed t (Close (Own t) o ∷ []) in
     let new = after_unlock S.synchronization.locks o Freed in
     let T = passing S mutexes owed new in
-    let sweeps : (p : ObjNo) → total (total (owed_sweeps p)) owed ≡ sweeps_of S p = λ p. let a = total-owing (owed_sweeps p) S.references.owed t (Close (Own t) o ∷ []) owes in omega arith in
+    let sweeps : (p : ObjNo) → total (total (owed_sweeps p)) owed ≡ sweeps_of S p =
+    λ p. let a = total-owing (owed_sweeps p) S.references.owed t (Close (Own t) o ∷ []) owes in
+    omega arith in
     sound-told script S T (Give t (Object o) ∷ []) [] (silent-give S t o) (λ p. refl) rows
     (sound-passed script S mutexes owed new []
-    (record { long = length-set S.references.owed t.0 _; duties = duties-close script S t o may few rows; locks = locks-freed (length S.references.objects) S.references.threads (parts S) rows.synchronization.locks small o may.object t own.own own.is own.thread there (may.nowhere o); unlocked = unlocked-set S.synchronization.locks S.serving.servers o _ (λ is none. ap (λ (w : Option Owner). owner_after_unlock w Freed) none) rows.serving.servers.unlocked; sweeps = sweeps })
-    (lives-none S T refl (λ p. let a = count-not_holding S.synchronization.mutexes t o p there once in let b = total-owing (owed_names p) S.references.owed t (Close (Own t) o ∷ []) owes in omega arith) sweeps (λ p. refl))
-    (holders-none S T (λ g x. let a = rows-not_holding S.references.handles S.references.threads S.synchronization.mutexes t o there once g x in let b = total-owing (owed_by g x) S.references.owed t (Close (Own t) o ∷ []) owes in omega arith)) rows)
+    (record {
+      long = length-set S.references.owed t.0 _;
+      duties = duties-close script S t o may few rows;
+      locks = locks-freed (length S.references.objects) S.references.threads
+          (parts S) rows.synchronization.locks small o may.object t own.own own.is own.thread there (may.nowhere o);
+      unlocked = unlocked-set S.synchronization.locks S.serving.servers o _
+          (λ is none. ap (λ (w : Option Owner). owner_after_unlock w Freed) none) rows.serving.servers.unlocked;
+      sweeps = sweeps;
+    })
+    (lives-none S T refl (λ p. let a = count-not_holding S.synchronization.mutexes t o p there once in
+    let b = total-owing (owed_names p) S.references.owed t (Close (Own t) o ∷ []) owes in omega arith) sweeps
+    (λ p. refl))
+    (holders-none S T (λ g x. let a = rows-not_holding S.references.handles S.references.threads
+    S.synchronization.mutexes t o there once g x in
+    let b = total-owing (owed_by g x) S.references.owed t (Close (Own t) o ∷ []) owes in omega arith)) rows)
 
-sound-given : (script : Script) (S : State) (t o w : ObjNo) → Gives S o t → best_waiter (priority_of S) S.synchronization.locks o ≡ Some w → total weight (owed_of S t) + 4 ≤ 12 → AreRows script S → Sound script S (moved t (Locks (Unlock o t (Passed w))) S) (lock_told (Unlock o t (Passed w)))
+sound-given : (script : Script) (S : State) (t o w : ObjNo) → Gives S o t
+    → best_waiter (priority_of S) S.synchronization.locks o ≡ Some w → total weight (owed_of S t) + 4 ≤ 12
+    → AreRows script S → Sound script S (moved t (Locks (Unlock o t (Passed w))) S) (lock_told (Unlock o t (Passed w)))
 sound-given script S t o w may best few rows =
     let own = may.owns in
     let among : is_among w (waiters_at S.synchronization.locks o) ≡ true = greatest_listed (priority_of S) (waiters_at S.synchronization.locks o) w best in
@@ -214,39 +301,80 @@ sound-given script S t o w may best few rows =
     let waiter : w.0 < length S.synchronization.mutexes = let a = inside S.references.threads w.0 awaits.row awaits.is in omega arith in
     let owes : t.0 < length S.references.owed = let a = rows.references.sized.duties in omega arith in
     let small = rows.references.sized.objects_few in
-    let once = held_once (length S.references.objects) S.references.threads (parts S) rows.synchronization.locks small o may.object t own.own own.is own.thread there (may.nowhere o) in
+    let once = held_once (length S.references.objects) S.references.threads
+    (parts S) rows.synchronization.locks small o may.object t own.own own.is own.thread there (may.nowhere o) in
     let left = not_holding S.synchronization.mutexes t o in
     let behind : w.0 < length left = let a = length-set S.synchronization.mutexes t.0 (without o (get_or S.synchronization.mutexes t.0 [])) in omega arith in
     let mutexes = holding left w o in
     let owed = owing S.references.owed t (Close (Own t) o ∷ []) in
     let new = after_unlock S.synchronization.locks o (Passed w) in
     let T = passing S mutexes owed new in
-    let apart : t.0 ≡ w.0 → ⊥ = λ at. let same : is_among t (waiters_at S.synchronization.locks o) ≡ is_among w (waiters_at S.synchronization.locks o) = ap (λ (n : ℕ). is_among (record { 0 = n }) (waiters_at S.synchronization.locks o)) at in let nowhere = may.nowhere o in cc in
+    let apart : t.0 ≡ w.0 → ⊥ = λ at. let same : is_among t (waiters_at S.synchronization.locks o)
+    ≡ is_among w (waiters_at S.synchronization.locks o) = ap
+    (λ (n : ℕ). is_among (record { 0 = n }) (waiters_at S.synchronization.locks o)) at in
+    let nowhere = may.nowhere o in
+    cc in
     let none : held_in S (Own w) o ≡ 0 =
-    let a = given_none (length S.references.objects) S.references.threads (parts S) rows.synchronization.locks small o may.object t own.own own.is own.thread there (may.nowhere o) w in
+    let a = given_none (length S.references.objects) S.references.threads
+    (parts S) rows.synchronization.locks small o may.object t own.own own.is own.thread there (may.nowhere o) w in
     let b = held-not_holding S.synchronization.mutexes t o w o there once in
     let c = if_not (t.0 == w.0) (same o o) (eqb_apart t.0 w.0 apart) in
-    let d = none_owed_by S.references.threads S.serving.servers S.serving.messages.accepted S.references.owed w (Own w) o rows.references.duties (λ k y own. own) (rows.synchronization.locks.paid w o among) in
-    let e = unowned-locked (λ row. is_spent row.stage) (length S.references.objects) S.references.threads S.synchronization.locks S.serving.owned S.serving.servers w o own.own own.is rows.serving.servers in omega arith in
-    let alive : IsAlive (object_of S o) = rows.lives.alive o (let a = total_at_least (total (mutex_names o)) S.synchronization.mutexes t.0 [] there in omega arith) in
-    let sweeps : (p : ObjNo) → total (total (owed_sweeps p)) owed ≡ sweeps_of S p = λ p. let a = total-owing (owed_sweeps p) S.references.owed t (Close (Own t) o ∷ []) owes in omega arith in
+    let d = none_owed_by S.references.threads S.serving.servers S.serving.messages.accepted S.references.owed w
+    (Own w) o rows.references.duties (λ k y own. own) (rows.synchronization.locks.paid w o among) in
+    let e = unowned-locked (λ row. is_spent row.stage)
+    (length S.references.objects) S.references.threads S.synchronization.locks S.serving.owned S.serving.servers w o
+    own.own own.is rows.serving.servers in
+    omega arith in
+    let alive : IsAlive (object_of S o) = rows.lives.alive o
+    (let a = total_at_least (total (mutex_names o)) S.synchronization.mutexes t.0 [] there in omega arith) in
+    let sweeps : (p : ObjNo) → total (total (owed_sweeps p)) owed ≡ sweeps_of S p =
+    λ p. let a = total-owing (owed_sweeps p) S.references.owed t (Close (Own t) o ∷ []) owes in
+    omega arith in
     sound-told script S T (Give t (Object o) ∷ Take w (Object o) ∷ []) (Plus (Own w) o ∷ []) (silent-pass S t w o) (λ p. refl) rows
     (sound-passed script S mutexes owed new (Plus (Own w) o ∷ [])
-    (record { long = length-set S.references.owed t.0 _; duties = duties-close script S t o may few rows; locks = locks-given (length S.references.objects) S.references.threads (parts S) rows.synchronization.locks small o may.object t own.own own.is own.thread there (may.nowhere o) w waiter; unlocked = unlocked-set S.synchronization.locks S.serving.servers o _ (λ is none. let held = own.is in absurd (cc)) rows.serving.servers.unlocked; sweeps = sweeps })
-    (lives-plus S T (Own w) o refl (λ p. let a = count-not_holding S.synchronization.mutexes t o p there once in let b = count-holding left w o p behind in let c = total-owing (owed_names p) S.references.owed t (Close (Own t) o ∷ []) owes in omega arith) sweeps (λ p. omega arith) alive)
-    (holders-plus S T (Own w) o none (λ g x. let a = rows-not_holding S.references.handles S.references.threads S.synchronization.mutexes t o there once g x in let b = rows-holding S.references.handles S.references.threads left w o behind g x in let c = total-owing (owed_by g x) S.references.owed t (Close (Own t) o ∷ []) owes in omega arith)) rows)
+    (record {
+      long = length-set S.references.owed t.0 _;
+      duties = duties-close script S t o may few rows;
+      locks = locks-given (length S.references.objects) S.references.threads
+          (parts S) rows.synchronization.locks small o may.object t own.own own.is own.thread there (may.nowhere o) w waiter;
+      unlocked = unlocked-set S.synchronization.locks S.serving.servers o _
+          (λ is none. let held = own.is in absurd (cc)) rows.serving.servers.unlocked;
+      sweeps = sweeps;
+    })
+    (lives-plus S T (Own w) o refl (λ p. let a = count-not_holding S.synchronization.mutexes t o p there once in
+    let b = count-holding left w o p behind in
+    let c = total-owing (owed_names p) S.references.owed t (Close (Own t) o ∷ []) owes in omega arith) sweeps
+    (λ p. omega arith) alive)
+    (holders-plus S T (Own w) o none (λ g x. let a = rows-not_holding S.references.handles S.references.threads
+    S.synchronization.mutexes t o there once g x in
+    let b = rows-holding S.references.handles S.references.threads left w o behind g x in
+    let c = total-owing (owed_by g x) S.references.owed t (Close (Own t) o ∷ []) owes in omega arith)) rows)
 
 gives : (S : State) (o t : ObjNo) (unlocked : Unlocked) → MayUnlock S o t unlocked → IsOwn (owner_at S.synchronization.locks o) t → Gives S o t
 gives S o t unlocked may owns = record { object = may.object; thread = may.thread; nowhere = may.nowhere; going = may.going; owns = owns }
 
 gives_all : (S : State) (o t : ObjNo) (best : Option ObjNo) → MayFree S o t best → Gives S o t
-gives_all S o t best may = record { object = may.object; thread = may.thread; nowhere = may.nowhere; going = may.going; owns = record { own = may.owns.owner; is = may.owns.is; thread = may.owns.thread } }
+gives_all S o t best may = record {
+  object = may.object;
+  thread = may.thread;
+  nowhere = may.nowhere;
+  going = may.going;
+  owns = record { own = may.owns.owner; is = may.owns.is; thread = may.owns.thread };
+}
 
-sound-unlock : (script : Script) (S : State) (t o : ObjNo) (unlocked : Unlocked) → MayUnlock S o t unlocked → total weight (owed_of S t) + 4 ≤ 12 → AreRows script S → Sound script S (moved t (Locks (Unlock o t unlocked)) S) (lock_told (Unlock o t unlocked))
-sound-unlock script S t o Level may few rows = sound-alone script S _ (locks-level (length S.references.objects) S.references.threads (parts S) rows.synchronization.locks rows.references.sized.objects_few o may.object)
-    (unlocked-set S.synchronization.locks S.serving.servers o _ (λ is none. ap (λ (w : Option Owner). owner_after_unlock w Level) none) rows.serving.servers.unlocked) rows
-sound-unlock script S t o NotOwner may few rows = sound-alone script S _ (locks-not_owner (length S.references.objects) S.references.threads (parts S) rows.synchronization.locks rows.references.sized.objects_few o may.object)
-    (unlocked-set S.synchronization.locks S.serving.servers o _ (λ is none. ap (λ (w : Option Owner). owner_after_unlock w NotOwner) none) rows.serving.servers.unlocked) rows
+sound-unlock : (script : Script) (S : State) (t o : ObjNo) (unlocked : Unlocked) → MayUnlock S o t unlocked
+    → total weight (owed_of S t) + 4 ≤ 12 → AreRows script S
+    → Sound script S (moved t (Locks (Unlock o t unlocked)) S) (lock_told (Unlock o t unlocked))
+sound-unlock script S t o Level may few rows =
+    sound-alone script S _ (locks-level (length S.references.objects) S.references.threads
+    (parts S) rows.synchronization.locks rows.references.sized.objects_few o may.object)
+    (unlocked-set S.synchronization.locks S.serving.servers o _
+    (λ is none. ap (λ (w : Option Owner). owner_after_unlock w Level) none) rows.serving.servers.unlocked) rows
+sound-unlock script S t o NotOwner may few rows =
+    sound-alone script S _ (locks-not_owner (length S.references.objects) S.references.threads
+    (parts S) rows.synchronization.locks rows.references.sized.objects_few o may.object)
+    (unlocked-set S.synchronization.locks S.serving.servers o _
+    (λ is none. ap (λ (w : Option Owner). owner_after_unlock w NotOwner) none) rows.serving.servers.unlocked) rows
 sound-unlock script S t o Freed may few rows =
     let owns = freed_by (owner_at S.synchronization.locks o) t (best_waiter (priority_of S) S.synchronization.locks o) may.answer in
     sound-freed script S t o (gives S o t Freed may owns) few rows
@@ -255,24 +383,50 @@ sound-unlock script S t o (Passed w) may few rows =
     sound-given script S t o w (gives S o t (Passed w) may by.0) by.1 few rows
 
 -- all levels at once
-sound-free : (script : Script) (S : State) (t o : ObjNo) (best : Option ObjNo) → MayFree S o t best → total weight (owed_of S t) + 4 ≤ 12 → AreRows script S → Sound script S (moved t (Locks (Free o t best)) S) (lock_told (Free o t best))
+sound-free : (script : Script) (S : State) (t o : ObjNo) (best : Option ObjNo) → MayFree S o t best
+    → total weight (owed_of S t) + 4 ≤ 12 → AreRows script S
+    → Sound script S (moved t (Locks (Free o t best)) S) (lock_told (Free o t best))
 sound-free script S t o None may few rows = sound-freed script S t o (gives_all S o t None may) few rows
 sound-free script S t o (Some w) may few rows = sound-given script S t o w (gives_all S o t (Some w) may) (sym may.chosen) few rows
 
-pub sound-locks : (script : Script) (S : State) (t : ObjNo) (m : LockMove) → FitsMove script t (Locks m) S → total weight (owed_of S t) + lock_owes m ≤ 12 → AreRows script S → Sound script S (moved t (Locks m) S) (told (Locks m) S)
-sound-locks script S t (Start o count) fits few rows = sound-alone script S _ (locks-start (length S.references.objects) S.references.threads (parts S) rows.synchronization.locks rows.references.sized.objects_few o fits.object count fits.few) rows.serving.servers.unlocked rows
+pub sound-locks : (script : Script) (S : State) (t : ObjNo) (m : LockMove) → FitsMove script t (Locks m) S
+    → total weight (owed_of S t) + lock_owes m ≤ 12 → AreRows script S
+    → Sound script S (moved t (Locks m) S) (told (Locks m) S)
+sound-locks script S t (Start o count) fits few rows =
+    sound-alone script S _ (locks-start (length S.references.objects) S.references.threads
+    (parts S) rows.synchronization.locks rows.references.sized.objects_few o fits.object count fits.few)
+    rows.serving.servers.unlocked rows
 sound-locks script S t (Lock o u locked) fits few rows = sound-lock script S t o u locked fits rows
-sound-locks script S t (Unlock o u unlocked) fits few rows = subst (λ (y : ObjNo). Sound script S (moved t (Locks (Unlock o y unlocked)) S) (lock_told (Unlock o y unlocked))) (sym fits.0) (sound-unlock script S t o unlocked (subst (λ (y : ObjNo). MayUnlock S o y unlocked) fits.0 fits.1) few rows)
-sound-locks script S t (Free o u best) fits few rows = subst (λ (y : ObjNo). Sound script S (moved t (Locks (Free o y best)) S) (lock_told (Free o y best))) (sym fits.0) (sound-free script S t o best (subst (λ (y : ObjNo). MayFree S o y best) fits.0 fits.1) few rows)
-sound-locks script S t (Leave u) fits few rows = sound-alone script S _ (locks-leave (length S.references.objects) S.references.threads (parts S) u rows.synchronization.locks) rows.serving.servers.unlocked rows
-sound-locks script S t (WaitOn o u) fits few rows = sound-alone script S _ (locks-wait (length S.references.objects) S.references.threads (parts S) rows.synchronization.locks rows.references.sized.objects_few o (alive_not_gone S.references.objects o fits.alive).1 u (λ zero. may_stand S u o (fits.joins zero))) rows.serving.servers.unlocked rows
-sound-locks script S t (Signal o signalled) fits few rows = sound-alone script S _ (locks-signal (length S.references.objects) S.references.threads (parts S) rows.synchronization.locks rows.references.sized.objects_few o fits.object signalled) rows.serving.servers.unlocked rows
+sound-locks script S t (Unlock o u unlocked) fits few rows =
+    subst (λ (y : ObjNo). Sound script S (moved t (Locks (Unlock o y unlocked)) S) (lock_told (Unlock o y unlocked)))
+    (sym fits.0) (sound-unlock script S t o unlocked
+    (subst (λ (y : ObjNo). MayUnlock S o y unlocked) fits.0 fits.1) few rows)
+sound-locks script S t (Free o u best) fits few rows =
+    subst (λ (y : ObjNo). Sound script S (moved t (Locks (Free o y best)) S) (lock_told (Free o y best))) (sym fits.0)
+    (sound-free script S t o best (subst (λ (y : ObjNo). MayFree S o y best) fits.0 fits.1) few rows)
+sound-locks script S t (Leave u) fits few rows =
+    sound-alone script S _ (locks-leave (length S.references.objects) S.references.threads
+    (parts S) u rows.synchronization.locks) rows.serving.servers.unlocked rows
+sound-locks script S t (WaitOn o u) fits few rows =
+    sound-alone script S _ (locks-wait (length S.references.objects) S.references.threads
+    (parts S) rows.synchronization.locks rows.references.sized.objects_few o
+    (alive_not_gone S.references.objects o fits.alive).1 u (λ zero. may_stand S u o (fits.joins zero)))
+    rows.serving.servers.unlocked rows
+sound-locks script S t (Signal o signalled) fits few rows =
+    sound-alone script S _ (locks-signal (length S.references.objects) S.references.threads
+    (parts S) rows.synchronization.locks rows.references.sized.objects_few o fits.object signalled)
+    rows.serving.servers.unlocked rows
 
 -- what such a move adds to the weight of what its thread owes
-close_weight : (owed : List (List Owed)) (t u o : ObjNo) → u ≡ t → total weight (get_or (owing owed u (Close (Own u) o ∷ [])) t.0 []) ≤ total weight (get_or owed t.0 []) + 4
-close_weight owed t u o is = subst (λ (y : ObjNo). total weight (get_or (owing owed u (Close (Own u) o ∷ [])) y.0 []) ≤ total weight (get_or owed y.0 []) + 4) is (let a = weight-owing owed u (Close (Own u) o ∷ []) in omega arith)
+close_weight : (owed : List (List Owed)) (t u o : ObjNo) → u ≡ t
+    → total weight (get_or (owing owed u (Close (Own u) o ∷ [])) t.0 []) ≤ total weight (get_or owed t.0 []) + 4
+close_weight owed t u o is =
+    subst (λ (y : ObjNo). total weight (get_or (owing owed u (Close (Own u) o ∷ [])) y.0 [])
+    ≤ total weight (get_or owed y.0 []) + 4) is (let a = weight-owing owed u (Close (Own u) o ∷ []) in omega arith)
 
-pub lock_weight : (script : Script) (S : State) (t : ObjNo) (m : LockMove) → FitsMove script t (Locks m) S → total weight (get_or (owed_moved m S.references.owed) t.0 []) ≤ total weight (get_or S.references.owed t.0 []) + lock_owes m
+pub lock_weight : (script : Script) (S : State) (t : ObjNo) (m : LockMove) → FitsMove script t (Locks m) S
+    → total weight (get_or (owed_moved m S.references.owed) t.0 [])
+    ≤ total weight (get_or S.references.owed t.0 []) + lock_owes m
 lock_weight script S t (Unlock o u Freed) fits = close_weight S.references.owed t u o fits.0
 lock_weight script S t (Unlock o u (Passed w)) fits = close_weight S.references.owed t u o fits.0
 lock_weight script S t (Free o u best) fits = close_weight S.references.owed t u o fits.0

@@ -47,12 +47,16 @@ use Rattle.move_laws.proofs.RowLaws.Rising.{one_goes}
 use Rattle.move_laws.proofs.RowLaws.ServerDuties.{duties-servers}
 
 -- a message is taken, which changes no reference
-sound-taken : (script : Script) (S : State) (m : Option MsgNo) → AreRows script S → Sound script S (record S { serving = record S.serving { messages = taken S.serving.messages m } }) []
+sound-taken : (script : Script) (S : State) (m : Option MsgNo) → AreRows script S
+    → Sound script S (record S { serving = record S.serving { messages = taken S.serving.messages m } }) []
 sound-taken script S None rows = sound-none script S rows
 sound-taken script S (Some m) rows =
     let T : State = record S { serving = record S.serving { messages = taken S.serving.messages (Some m) } } in
-    let stays : (f : Message → ℕ) → ((message : Message) → f (record message { row = taken_row message.row }) ≡ f message) → total f T.serving.messages.outstanding ≡ total f S.serving.messages.outstanding = λ f keeps.
-    edited-total (IsUntold S.synchronization.requests S.synchronization.logons) S.references.threads S.serving.servers S.serving.messages m taken_row (λ row. refl) (λ row. refl) (λ row. refl) f keeps in
+    let stays : (f : Message → ℕ) → ((message : Message) → f (record message { row = taken_row message.row })
+    ≡ f message) → total f T.serving.messages.outstanding ≡ total f S.serving.messages.outstanding =
+    λ f keeps.
+    edited-total (IsUntold S.synchronization.requests S.synchronization.logons) S.references.threads S.serving.servers
+    S.serving.messages m taken_row (λ row. refl) (λ row. refl) (λ row. refl) f keeps in
     sound-of script S T [] rows (record {
       handles_long = refl;
       threads_long = refl;
@@ -64,16 +68,24 @@ sound-taken script S (Some m) rows =
       synchronization = rows.synchronization;
       services = rows.services;
       spent = rows.references.spent;
-      serving = record { servers = rows.serving.servers; messages = messages-edited (IsUntold S.synchronization.requests S.synchronization.logons) S.references.threads S.serving.servers S.serving.messages m taken_row (λ row. refl) (λ row. refl) (λ row. refl) rows.serving.messages };
+      serving = record {
+        servers = rows.serving.servers;
+        messages =
+            messages-edited (IsUntold S.synchronization.requests S.synchronization.logons) S.references.threads
+            S.serving.servers S.serving.messages m taken_row (λ row. refl) (λ row. refl) (λ row. refl) rows.serving.messages;
+      };
     })
     (lives-none S T refl (λ o. let a = stays (message_names o) (λ x. refl) in omega arith) (λ o. refl) (λ o. refl))
-    (holders-none S T (λ g x. let a = holds-same S.serving.owned S.serving.servers.sessions S.serving.messages.outstanding T.serving.messages.outstanding g x (λ n. stays (message_holds n x) (λ y. refl)) in omega arith))
+    (holders-none S T (λ g x. let a = holds-same S.serving.owned S.serving.servers.sessions
+    S.serving.messages.outstanding T.serving.messages.outstanding g x (λ n. stays (message_holds n x) (λ y. refl)) in
+    omega arith))
 
 -- no message has the next number
 unheld_next : (script : Script) (S : State) (x : ObjNo) → AreRows script S → held_in S (OfMessage (next_number S.serving.messages)) x ≡ 0
 unheld_next script S x rows =
     let n = next_number S.serving.messages in
-    let a = none_owed S.references.threads S.serving.servers S.serving.messages.accepted S.references.owed (OfMessage n) x rows.references.duties (λ k y own. absurd (omega arith)) in
+    let a = none_owed S.references.threads S.serving.servers S.serving.messages.accepted S.references.owed
+    (OfMessage n) x rows.references.duties (λ k y own. absurd (omega arith)) in
     let b : total (message_holds n x) S.serving.messages.outstanding ≡ 0 = zero_or (total (message_holds n x) S.serving.messages.outstanding) (λ some.
     let one = total_some (message_holds n x) S.serving.messages.outstanding some in
     let at = numbered n x one.0 one.2 in
@@ -87,7 +99,9 @@ unheld_next script S x rows =
         by false is some = absurd (omega arith)
 
 -- a message is accepted
-sound-accept : (script : Script) (S : State) (slots : Slots) (row : MsgRow) → MayAccept S row → AreRows script S → Sound script S (record S { serving = record S.serving { messages = added S.serving.messages slots row } }) (message_told (Accept slots row) S.serving.messages)
+sound-accept : (script : Script) (S : State) (slots : Slots) (row : MsgRow) → MayAccept S row → AreRows script S
+    → Sound script S (record S { serving = record S.serving { messages = added S.serving.messages slots row } })
+    (message_told (Accept slots row) S.serving.messages)
 sound-accept script S slots row may rows =
     sound-of script S T (message_told (Accept slots row) S.serving.messages) rows (record {
       handles_long = refl;
@@ -96,7 +110,10 @@ sound-accept script S slots row may rows =
       objects_few = rows.references.sized.objects_few;
       tables = rows.references.tables;
       threads = rows.references.threads;
-      duties = duties-servers S.references.threads S.serving.servers S.serving.servers S.serving.messages.accepted (S.serving.messages.accepted + 1) S.references.owed (omega arith) (λ x _ none. none) (λ x is. is) rows.references.duties;
+      duties =
+          duties-servers S.references.threads S.serving.servers S.serving.servers S.serving.messages.accepted
+          (S.serving.messages.accepted + 1) S.references.owed (omega arith) (λ x _ none. none)
+          (λ x is. is) rows.references.duties;
       synchronization = rows.synchronization;
       services = rows.services;
       spent = rows.references.spent;
@@ -109,7 +126,18 @@ sound-accept script S slots row may rows =
       | inr other ↦ subst (λ (y : ObjNo). IsAlive (object_of S y)) (same_is row.client o (omega arith)) (rows.lives.alive row.client may.client)
     ]) (λ o some. absurd (omega arith)))
     (record {
-      fits = (tt, (unheld_next script S row.session rows, (let a = unheld_next script S row.client rows in let b = if_zero (is_holder (OfMessage (next_number S.serving.messages)) (OfMessage (next_number S.serving.messages))) (same row.session row.client) apart in omega arith, tt)));
+      fits = (
+        tt,
+        (
+          unheld_next script S row.session rows,
+          (
+            let a = unheld_next script S row.client rows in
+                let b = if_zero (is_holder (OfMessage (next_number S.serving.messages))
+                (OfMessage (next_number S.serving.messages))) (same row.session row.client) apart in omega arith,
+            tt,
+          ),
+        ),
+      );
       moves = λ g x. sym (holds g x);
     })
   where
@@ -119,7 +147,9 @@ sound-accept script S slots row may rows =
     T : State
     T = record S { serving = record S.serving { messages = added S.serving.messages slots row } }
 
-    holds : (g : Holder) (x : ObjNo) → held_in T g x ≡ held_in S g x + same_pair (OfMessage (next_number S.serving.messages)) row.session g x + same_pair (OfMessage (next_number S.serving.messages)) row.client g x
+    holds : (g : Holder) (x : ObjNo) → held_in T g x
+        ≡ held_in S g x + same_pair (OfMessage (next_number S.serving.messages)) row.session g x + same_pair
+        (OfMessage (next_number S.serving.messages)) row.client g x
     holds g x = let a = holds-message S.serving.owned S.serving.servers.sessions S.serving.messages.outstanding new g x in omega arith
 
     -- no session is a thread
@@ -128,11 +158,18 @@ sound-accept script S slots row may rows =
         let none = rows.serving.servers.sessions_later row.client (thread_inside S.references.threads row.client.0 may.thread) in
         let known = may.known in
         let own = same_is row.session row.client some in
-        let lost : is_some (session_at S.serving.servers row.session) ≡ false = ap (λ (x : ObjNo). is_some (session_at S.serving.servers x)) own ∙ ap is_some none in cc)
+        let lost : is_some (session_at S.serving.servers row.session)
+        ≡ false = ap (λ (x : ObjNo). is_some (session_at S.serving.servers x)) own ∙ ap is_some none in cc)
 
 -- a message is finished
-sound-finished : (script : Script) (S : State) (t : ObjNo) (m : MsgNo) (code : ℤ) (message : Message) → message_of S.serving.messages m ≡ Some message → MayOweMore S t → total weight (owed_of S t) + 8 ≤ 12 → AreRows script S
-    → Sound script S (record S { serving = record S.serving { messages = after_finish S.serving.messages m }; references = record S.references { owed = owing S.references.owed t (closes_of (Some message)) } }) (effect.Finish m code ∷ [])
+sound-finished : (script : Script) (S : State) (t : ObjNo) (m : MsgNo) (code : ℤ) (message : Message)
+    → message_of S.serving.messages m ≡ Some message → MayOweMore S t → total weight (owed_of S t) + 8 ≤ 12
+    → AreRows script S
+    → Sound script S (record S {
+      serving = record S.serving { messages = after_finish S.serving.messages m };
+      references = record S.references { owed = owing S.references.owed t (closes_of (Some message)) };
+    })
+    (effect.Finish m code ∷ [])
 sound-finished script S t m code message found may few rows =
     sound-of script S T (effect.Finish m code ∷ []) rows (record {
       handles_long = refl;
@@ -141,23 +178,42 @@ sound-finished script S t m code message found may few rows =
       objects_few = rows.references.sized.objects_few;
       tables = rows.references.tables;
       threads = rows.references.threads;
-      duties = duties-owing S.references.threads S.serving.servers S.serving.messages.accepted S.references.owed t more (given, (given, tt)) (omega arith) may.going rows.references.duties;
+      duties =
+          duties-owing S.references.threads S.serving.servers S.serving.messages.accepted S.references.owed t more
+          (given, (given, tt)) (omega arith) may.going rows.references.duties;
       synchronization = synchronization-left script S (length S.references.objects) S.references.threads (owing S.references.owed t more) (omega arith)
-          (synchronization-then script S S.references.threads S.references.owed (owing S.references.owed t more) (synchronization-same script S rows) (leaves-owing S.references.threads S.references.owed t more S.synchronization.locks (λ u x. refl))) rows;
+          (synchronization-then script S S.references.threads S.references.owed (owing S.references.owed t more)
+          (synchronization-same script S rows) (leaves-owing S.references.threads S.references.owed t more
+          S.synchronization.locks (λ u x. refl))) rows;
       services = rows.services;
       spent = rows.references.spent;
-      serving = record { servers = rows.serving.servers; messages = messages-finished (IsUntold S.synchronization.requests S.synchronization.logons) S.references.threads S.serving.servers S.serving.messages m rows.serving.messages };
+      serving = record {
+        servers = rows.serving.servers;
+        messages =
+            messages-finished (IsUntold S.synchronization.requests S.synchronization.logons) S.references.threads
+            S.serving.servers S.serving.messages m rows.serving.messages;
+      };
     })
     (lives-quiet S T (effect.Finish m code ∷ []) refl (record { minuses = λ o. refl; deaths = λ o. refl; removals = λ o. refl })
-    (λ o. let a = one_goes (message_names o) m S.serving.messages.outstanding message rows.serving.messages.rising found in let b = total-owing (owed_names o) S.references.owed t more here in omega arith)
-    (λ o. let b = total-owing (owed_sweeps o) S.references.owed t more here in omega arith) (λ o inside alive. omega arith) (λ o some. absurd (omega arith)) (λ o some. absurd (omega arith)))
-    (record { fits = (tt, tt); moves = λ g x. let a = holds-finished S.serving.owned S.serving.servers.sessions S.serving.messages.outstanding m message rows.serving.messages.rising found g x in let b = total-owing (owed_by g x) S.references.owed t more here in omega arith })
+    (λ o. let a = one_goes (message_names o) m S.serving.messages.outstanding message rows.serving.messages.rising
+    found in let b = total-owing (owed_names o) S.references.owed t more here in omega arith)
+    (λ o. let b = total-owing (owed_sweeps o) S.references.owed t more here in omega arith)
+    (λ o inside alive. omega arith) (λ o some. absurd (omega arith)) (λ o some. absurd (omega arith)))
+    (record {
+      fits = (tt, tt);
+      moves = λ g x. let a = holds-finished S.serving.owned S.serving.servers.sessions
+          S.serving.messages.outstanding m message rows.serving.messages.rising found g x in
+          let b = total-owing (owed_by g x) S.references.owed t more here in omega arith;
+    })
   where
     more : List Owed
     more = closes_of (Some message)
 
     T : State
-    T = record S { serving = record S.serving { messages = after_finish S.serving.messages m }; references = record S.references { owed = owing S.references.owed t more } }
+    T = record S {
+      serving = record S.serving { messages = after_finish S.serving.messages m };
+      references = record S.references { owed = owing S.references.owed t more };
+    }
 
     here : t.0 < length S.references.owed
     here = let inside = thread_inside S.references.threads t.0 may.thread in let sized = rows.references.sized.duties in omega arith
@@ -165,12 +221,20 @@ sound-finished script S t m code message found may few rows =
     given : message.number.0 ≤ S.serving.messages.accepted
     given = rows.serving.messages.given message (found_there (has_number m) S.serving.messages.outstanding message found).0
 
-sound-finish : (script : Script) (S : State) (t : ObjNo) (m : MsgNo) (code : ℤ) (found : Option Message) → message_of S.serving.messages m ≡ found → is_some found ≡ true → MayOweMore S t → total weight (owed_of S t) + 8 ≤ 12 → AreRows script S
-    → Sound script S (record S { serving = record S.serving { messages = after_finish S.serving.messages m }; references = record S.references { owed = owing S.references.owed t (closes_of found) } }) (effect.Finish m code ∷ [])
+sound-finish : (script : Script) (S : State) (t : ObjNo) (m : MsgNo) (code : ℤ) (found : Option Message)
+    → message_of S.serving.messages m ≡ found → is_some found ≡ true → MayOweMore S t
+    → total weight (owed_of S t) + 8 ≤ 12 → AreRows script S
+    → Sound script S (record S {
+      serving = record S.serving { messages = after_finish S.serving.messages m };
+      references = record S.references { owed = owing S.references.owed t (closes_of found) };
+    })
+    (effect.Finish m code ∷ [])
 sound-finish script S t m code None at some may few rows = absurd (cc)
 sound-finish script S t m code (Some message) at some may few rows = sound-finished script S t m code message at may few rows
 
-pub sound-messages : (script : Script) (S : State) (t : ObjNo) (m : MessageMove) → FitsMove script t (Messages m) S → total weight (owed_of S t) + message_owes m ≤ 12 → AreRows script S → Sound script S (moved t (Messages m) S) (told (Messages m) S)
+pub sound-messages : (script : Script) (S : State) (t : ObjNo) (m : MessageMove) → FitsMove script t (Messages m) S
+    → total weight (owed_of S t) + message_owes m ≤ 12 → AreRows script S
+    → Sound script S (moved t (Messages m) S) (told (Messages m) S)
 sound-messages script S t (Accept slots row) fits few rows = sound-accept script S slots row fits.0 rows
 sound-messages script S t (Take o) fits few rows = sound-taken script S (next_of S.serving.messages o) rows
 sound-messages script S t (Finish m code) fits few rows = sound-finish script S t m code (message_of S.serving.messages m) refl fits.0 fits.1 few rows
@@ -186,6 +250,11 @@ closes_weight : (found : Option Message) → total weight (closes_of found) ≤ 
 closes_weight None = omega arith
 closes_weight (Some message) = omega arith
 
-pub message_weight : (S : State) (t : ObjNo) (m : MessageMove) → total weight (get_or (message_owed t m S.serving.messages S.references.owed) t.0 []) ≤ total weight (owed_of S t) + message_owes m
-message_weight S t (Finish m code) = let a = weight-owing S.references.owed t (closes_of (message_of S.serving.messages m)) in let b = closes_weight (message_of S.serving.messages m) in omega arith
+pub message_weight : (S : State) (t : ObjNo) (m : MessageMove)
+    → total weight (get_or (message_owed t m S.serving.messages S.references.owed) t.0 [])
+    ≤ total weight (owed_of S t) + message_owes m
+message_weight S t (Finish m code) =
+    let a = weight-owing S.references.owed t (closes_of (message_of S.serving.messages m)) in
+    let b = closes_weight (message_of S.serving.messages m) in
+    omega arith
 message_weight S t _ = omega arith

@@ -43,9 +43,13 @@ all_owed_by_le g x [] = omega arith
 all_owed_by_le g x (what ∷ rest) = let a = owed_by_le g x what in let b = all_owed_by_le g x rest in omega arith
 
 abbrev owning : State → Kind → List ℕ → ObjNo → State
-owning S kind name u = record S { references = record S.references { objects = S.references.objects ++ Some (new_object kind name) ∷ [] }; serving = record S.serving { owned = owned_gain (Own u) (next_object S) S.serving.owned } }
+owning S kind name u = record S {
+  references = record S.references { objects = S.references.objects ++ Some (new_object kind name) ∷ [] };
+  serving = record S.serving { owned = owned_gain (Own u) (next_object S) S.serving.owned };
+}
 
-pub sound-owned : (script : Script) (S : State) (kind : Kind) (name : List ℕ) (u : ObjNo) → MayMake S kind name → MayOwnNext S u → AreRows script S → Sound script S (owning S kind name u) (Plus (Own u) (next_object S) ∷ [])
+pub sound-owned : (script : Script) (S : State) (kind : Kind) (name : List ℕ) (u : ObjNo) → MayMake S kind name
+    → MayOwnNext S u → AreRows script S → Sound script S (owning S kind name u) (Plus (Own u) (next_object S) ∷ [])
 sound-owned script S kind name u may own rows =
     sound-of script S T (Plus (Own u) o ∷ []) rows (record {
       handles_long = refl;
@@ -55,23 +59,32 @@ sound-owned script S kind name u may own rows =
       tables = rows.references.tables;
       threads = rows.references.threads;
       duties = rows.references.duties;
-      synchronization = synchronization-left script S (length T.references.objects) S.references.threads S.references.owed (let l = long in omega arith) (synchronization-same script S rows) rows;
+      synchronization =
+          synchronization-left script S (length T.references.objects) S.references.threads S.references.owed
+          (let l = long in omega arith) (synchronization-same script S rows) rows;
       services = rows.services;
-      spent = spent-objects S.references.objects T.references.objects S.references.handles S.references.threads (made-dead S.references.objects (new_object kind name) refl) rows.references.spent;
+      spent =
+          spent-objects S.references.objects T.references.objects S.references.handles S.references.threads
+          (made-dead S.references.objects (new_object kind name) refl) rows.references.spent;
       serving = record {
-        servers = servers-owned (λ row. is_spent row.stage) (length S.references.objects) (length T.references.objects) S.references.threads S.synchronization.locks S.serving.owned S.serving.servers u o (let l = long in omega arith) (record {
-          server = record { row = record { owner = u; is_closing = false }; is = own.server; owner = refl };
-          live = λ row is. let same_row : own.owner.row ≡ row = (let a = own.owner.is in cc) in
-              let stage : row.stage ≡ Live = subst (λ (r : ThreadRow). r.stage ≡ Live) same_row own.owner.live in
-              (ap is_live stage, ap is_spent stage);
-          inside = inside_owned;
-          unowned = λ t. let none = (next_fresh script S rows).count in let within = total_within (mutex_names o) S.serving.owned t.0 in omega arith;
-        }) rows.serving.servers;
+        servers =
+            servers-owned (λ row. is_spent row.stage) (length S.references.objects)
+            (length T.references.objects) S.references.threads S.synchronization.locks S.serving.owned S.serving.servers u o
+            (let l = long in omega arith) (record {
+              server = record { row = record { owner = u; is_closing = false }; is = own.server; owner = refl };
+              live = λ row is. let same_row : own.owner.row ≡ row = (let a = own.owner.is in cc) in
+                  let stage : row.stage ≡ Live = subst (λ (r : ThreadRow). r.stage ≡ Live) same_row own.owner.live in
+                  (ap is_live stage, ap is_spent stage);
+              inside = inside_owned;
+              unowned = λ t. let none = (next_fresh script S rows).count in let within = total_within (mutex_names o) S.serving.owned t.0 in omega arith;
+            }) rows.serving.servers;
         messages = rows.serving.messages;
       };
     })
-    (lives-made S T (new_object kind name) (Own u) o refl refl refl (λ p. let a = count-holding S.serving.owned u o p inside_owned in omega arith) (λ p. refl) (λ p. refl))
-    (holders-plus S T (Own u) o unheld (λ g x. let a = holds-owned S.serving.owned S.serving.servers.sessions S.serving.messages.outstanding u o inside_owned g x in omega arith))
+    (lives-made S T (new_object kind name) (Own u) o refl refl refl
+    (λ p. let a = count-holding S.serving.owned u o p inside_owned in omega arith) (λ p. refl) (λ p. refl))
+    (holders-plus S T (Own u) o unheld (λ g x. let a = holds-owned S.serving.owned S.serving.servers.sessions
+    S.serving.messages.outstanding u o inside_owned g x in omega arith))
   where
     o : ObjNo
     o = next_object S

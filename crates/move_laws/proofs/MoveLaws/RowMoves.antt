@@ -62,31 +62,65 @@ pub record IsSilent (S : State) (effects : List Effect) : Type 0 where
 
 -- such are none
 pub silent : (S : State) → IsSilent S []
-silent S = record { quiet = record { minuses = λ o. refl; deaths = λ o. refl; removals = λ o. refl }; pluses = λ o. refl; found = λ o h. absurd (omega arith); fits = tt; after = λ g x. refl }
+silent S = record {
+  quiet = record { minuses = λ o. refl; deaths = λ o. refl; removals = λ o. refl };
+  pluses = λ o. refl;
+  found = λ o h. absurd (omega arith);
+  fits = tt;
+  after = λ g x. refl;
+}
 
 -- a change of a row that leaves its references
 pub record KeepsReferences (f : ThreadRow → ThreadRow) : Type 0 where
   pub link : (row : ThreadRow) → (f row).link ≡ row.link
   pub uses : (row : ThreadRow) → (f row).uses ≡ row.uses
 
-pub names-map : (f : ThreadRow → ThreadRow) (x : Option ThreadRow) (o : ObjNo) → KeepsReferences f → (use_names o (option_map f x) ≡ use_names o x) × (link_names o (option_map f x) ≡ link_names o x) × (thread_names o (option_map f x) ≡ thread_names o x)
+pub names-map : (f : ThreadRow → ThreadRow) (x : Option ThreadRow) (o : ObjNo) → KeepsReferences f
+    → (use_names o (option_map f x) ≡ use_names o x) × (link_names o (option_map f x) ≡ link_names o x)
+    × (thread_names o (option_map f x) ≡ thread_names o x)
 names-map f None o h = (refl, refl, refl)
 names-map f (Some row) o h = let a = h.uses row in let b = h.link row in (cc, cc, cc)
 
 -- a change that leaves its stage leaves the rows of servers
-pub servers-row : (script : Script) (S : State) (u : ObjNo) (f : ThreadRow → ThreadRow) → ((row : ThreadRow) → (f row).stage ≡ row.stage) → AreRows script S → AreServers (λ row. is_spent row.stage) (length S.references.objects) (with_row S.references.threads u f) S.synchronization.locks S.serving.owned S.serving.servers
-servers-row script S u f stage rows = servers-kept (λ row. is_spent row.stage) (length S.references.objects) S.references.threads S.synchronization.locks S.serving.owned S.serving.servers u f stage (λ row. ap is_spent (stage row)) rows.serving.servers
+pub servers-row : (script : Script) (S : State) (u : ObjNo) (f : ThreadRow → ThreadRow)
+    → ((row : ThreadRow) → (f row).stage ≡ row.stage) → AreRows script S
+    → AreServers (λ row. is_spent row.stage) (length S.references.objects)
+    (with_row S.references.threads u f) S.synchronization.locks S.serving.owned S.serving.servers
+servers-row script S u f stage rows =
+    servers-kept (λ row. is_spent row.stage)
+    (length S.references.objects) S.references.threads S.synchronization.locks S.serving.owned S.serving.servers u f
+    stage (λ row. ap is_spent (stage row)) rows.serving.servers
 
 -- and one that begins no sending leaves those of messages
-pub messages-row : (script : Script) (S : State) (u : ObjNo) (f : ThreadRow → ThreadRow) → KeepsMessages f → AreRows script S → AreMessages (IsUntold S.synchronization.requests S.synchronization.logons) (with_row S.references.threads u f) S.serving.servers S.serving.messages
-messages-row script S u f keeps rows = messages-kept (IsUntold S.synchronization.requests S.synchronization.logons) S.references.threads S.serving.servers S.serving.messages u f keeps rows.serving.messages
+pub messages-row : (script : Script) (S : State) (u : ObjNo) (f : ThreadRow → ThreadRow) → KeepsMessages f
+    → AreRows script S
+    → AreMessages (IsUntold S.synchronization.requests S.synchronization.logons)
+    (with_row S.references.threads u f) S.serving.servers S.serving.messages
+messages-row script S u f keeps rows =
+    messages-kept (IsUntold S.synchronization.requests S.synchronization.logons) S.references.threads S.serving.servers
+    S.serving.messages u f keeps rows.serving.messages
 
 -- and one that leaves its stage and begins no sending those of both
-pub serving-kept : (script : Script) (S : State) (u : ObjNo) (f : ThreadRow → ThreadRow) → ((row : ThreadRow) → (f row).stage ≡ row.stage) → KeepsMessages f → AreRows script S → AreServingRows (length S.references.objects) (with_row S.references.threads u f) S.synchronization.locks (IsUntold S.synchronization.requests S.synchronization.logons) S.serving
+pub serving-kept : (script : Script) (S : State) (u : ObjNo) (f : ThreadRow → ThreadRow)
+    → ((row : ThreadRow) → (f row).stage ≡ row.stage) → KeepsMessages f → AreRows script S
+    → AreServingRows (length S.references.objects) (with_row S.references.threads u f) S.synchronization.locks
+    (IsUntold S.synchronization.requests S.synchronization.logons) S.serving
 serving-kept script S u f stage keeps rows = record { servers = servers-row script S u f stage rows; messages = messages-row script S u f keeps rows }
 
 -- a change after which who isn't out any more was out on what is gone
-pub sound-row-out : (script : Script) (S : State) (u : ObjNo) (f : ThreadRow → ThreadRow) (effects : List Effect) → ((o : ObjNo) → o.0 < length S.references.objects → gone S.references.objects o ≡ 0 → outs_of S o ≤ outs_of (record S { references = record S.references { threads = with_row S.references.threads u f } }) o) → KeepsReferences f → ((row : ThreadRow) → thread_of S u ≡ Some row → stage_holds (f row).stage ≡ stage_holds row.stage) → ((row : ThreadRow) → thread_of S u ≡ Some row → IsThread script (length S.references.threads) row → KeepsThread script (length S.references.threads) row (f row)) → ((k : ℕ) → (get_or S.references.owed k [] ≡ []) ⊎ IsPaidIn S.references.threads (with_row S.references.threads u f) k) → IsSilent S effects → LeavesSynchronization script S (with_row S.references.threads u f) S.references.owed → AreSpent S.references.objects S.references.handles (with_row S.references.threads u f) → AreServingRows (length S.references.objects) (with_row S.references.threads u f) S.synchronization.locks (IsUntold S.synchronization.requests S.synchronization.logons) S.serving
+pub sound-row-out : (script : Script) (S : State) (u : ObjNo) (f : ThreadRow → ThreadRow) (effects : List Effect)
+    → ((o : ObjNo) → o.0 < length S.references.objects → gone S.references.objects o ≡ 0 → outs_of S o
+    ≤ outs_of (record S { references = record S.references { threads = with_row S.references.threads u f } }) o)
+    → KeepsReferences f
+    → ((row : ThreadRow) → thread_of S u ≡ Some row → stage_holds (f row).stage ≡ stage_holds row.stage)
+    → ((row : ThreadRow) → thread_of S u ≡ Some row → IsThread script (length S.references.threads) row
+    → KeepsThread script (length S.references.threads) row (f row))
+    → ((k : ℕ) → (get_or S.references.owed k [] ≡ [])
+    ⊎ IsPaidIn S.references.threads (with_row S.references.threads u f) k)
+    → IsSilent S effects → LeavesSynchronization script S (with_row S.references.threads u f) S.references.owed
+    → AreSpent S.references.objects S.references.handles (with_row S.references.threads u f)
+    → AreServingRows (length S.references.objects) (with_row S.references.threads u f) S.synchronization.locks
+    (IsUntold S.synchronization.requests S.synchronization.logons) S.serving
     → AreRows script S → Sound script S (record S { references = record S.references { threads = with_row S.references.threads u f } }) effects
 sound-row-out script S u f effects outs keeps holds thread paid quiet leaves spent serving rows =
     let T : State = record S { references = record S.references { threads = with_row S.references.threads u f } } in
@@ -98,7 +132,12 @@ sound-row-out script S u f effects outs keeps holds thread paid quiet leaves spe
     let held : (g : Holder) (x : ObjNo) → held_in T g x ≡ held_in S g x = λ g x.
     let a = rows-with_row S.references.handles S.references.threads S.synchronization.mutexes u f g x holds in
     let n = names-map f old x keeps in
-    let b : row_holds u (option_map f old) g x ≡ row_holds u old g x = ap (λ (y : ℕ). (if is_holder (Temp u) g then y else 0) + (if is_holder (Link u) g then link_names x (option_map f old) else 0)) n.0 ∙ ap (λ (y : ℕ). (if is_holder (Temp u) g then use_names x old else 0) + (if is_holder (Link u) g then y else 0)) n.1 in omega arith in
+    let b : row_holds u (option_map f old) g x ≡ row_holds u old g x =
+    ap (λ (y : ℕ). (if is_holder (Temp u) g then y else 0) +
+    (if is_holder (Link u) g then link_names x (option_map f old) else 0)) n.0
+    ∙ ap (λ (y : ℕ). (if is_holder (Temp u) g then use_names x old else 0) + (if is_holder (Link u) g then y else 0))
+    n.1 in
+    omega arith in
     sound-of script S T effects rows (record {
       handles_long = refl;
       threads_long = length-with_row S.references.threads u f;
@@ -106,20 +145,39 @@ sound-row-out script S u f effects outs keeps holds thread paid quiet leaves spe
       objects_few = rows.references.sized.objects_few;
       tables = rows.references.tables;
       threads = threads-with_row script S.references.threads u f thread rows.references.threads;
-      duties = duties-threads S.references.threads (with_row S.references.threads u f) S.serving.servers S.serving.messages.accepted S.references.owed paid rows.references.duties;
-      synchronization = synchronization-left script S (length S.references.objects) (with_row S.references.threads u f) S.references.owed (omega arith) leaves rows;
+      duties =
+          duties-threads S.references.threads (with_row S.references.threads u f) S.serving.servers
+          S.serving.messages.accepted S.references.owed paid rows.references.duties;
+      synchronization =
+          synchronization-left script S (length S.references.objects) (with_row S.references.threads u f) S.references.owed
+          (omega arith) leaves rows;
       services = services-row S.references.threads u f S.services (λ row is. (thread row is (rows.references.threads.rows u.0 row is)).process) rows.services;
       spent = spent;
       serving = serving;
     })
-    (lives-quiet S T effects refl quiet.quiet (λ o. let a = counts o in let b = quiet.pluses o in let c = quiet.quiet.minuses o in omega arith) (λ o. refl) (λ o inside alive. let a = outs o inside alive in omega arith) (λ o h. let b = quiet.pluses o in absurd (omega arith)) quiet.found)
+    (lives-quiet S T effects refl quiet.quiet
+    (λ o. let a = counts o in let b = quiet.pluses o in let c = quiet.quiet.minuses o in omega arith) (λ o. refl)
+    (λ o inside alive. let a = outs o inside alive in omega arith)
+    (λ o h. let b = quiet.pluses o in absurd (omega arith)) quiet.found)
     (record { fits = quiet.fits; moves = λ g x. quiet.after g x ∙ sym (held g x) })
 
 -- one that leaves who is out
-pub sound-row : (script : Script) (S : State) (u : ObjNo) (f : ThreadRow → ThreadRow) (effects : List Effect) → ((row : ThreadRow) → thread_of S u ≡ Some row → KeepsSeeks f row) → KeepsReferences f → ((row : ThreadRow) → thread_of S u ≡ Some row → stage_holds (f row).stage ≡ stage_holds row.stage) → ((row : ThreadRow) → thread_of S u ≡ Some row → IsThread script (length S.references.threads) row → KeepsThread script (length S.references.threads) row (f row)) → ((k : ℕ) → (get_or S.references.owed k [] ≡ []) ⊎ IsPaidIn S.references.threads (with_row S.references.threads u f) k) → IsSilent S effects → LeavesSynchronization script S (with_row S.references.threads u f) S.references.owed → AreSpent S.references.objects S.references.handles (with_row S.references.threads u f) → AreServingRows (length S.references.objects) (with_row S.references.threads u f) S.synchronization.locks (IsUntold S.synchronization.requests S.synchronization.logons) S.serving
+pub sound-row : (script : Script) (S : State) (u : ObjNo) (f : ThreadRow → ThreadRow) (effects : List Effect)
+    → ((row : ThreadRow) → thread_of S u ≡ Some row → KeepsSeeks f row) → KeepsReferences f
+    → ((row : ThreadRow) → thread_of S u ≡ Some row → stage_holds (f row).stage ≡ stage_holds row.stage)
+    → ((row : ThreadRow) → thread_of S u ≡ Some row → IsThread script (length S.references.threads) row
+    → KeepsThread script (length S.references.threads) row (f row))
+    → ((k : ℕ) → (get_or S.references.owed k [] ≡ [])
+    ⊎ IsPaidIn S.references.threads (with_row S.references.threads u f) k)
+    → IsSilent S effects → LeavesSynchronization script S (with_row S.references.threads u f) S.references.owed
+    → AreSpent S.references.objects S.references.handles (with_row S.references.threads u f)
+    → AreServingRows (length S.references.objects) (with_row S.references.threads u f) S.synchronization.locks
+    (IsUntold S.synchronization.requests S.synchronization.logons) S.serving
     → AreRows script S → Sound script S (record S { references = record S.references { threads = with_row S.references.threads u f } }) effects
 sound-row script S u f effects seek keeps holds thread paid quiet leaves spent serving rows =
-    sound-row-out script S u f effects (λ o inside alive. let a = outs-same S (with_row S.references.threads u f) (seeks-with_row S.references.threads u f seek) o in omega arith) keeps holds thread paid quiet leaves spent serving rows
+    sound-row-out script S u f effects (λ o inside alive. let a = outs-same S (with_row S.references.threads u f)
+    (seeks-with_row S.references.threads u f seek) o in
+    omega arith) keeps holds thread paid quiet leaves spent serving rows
 
 -- a return comes before the use of anything, and isn't the last step of its instruction
 pub returning_before : (p : Option Part) → is_returning p ≡ true → is_before_use p ≡ true
@@ -136,7 +194,9 @@ missed_none S u o p fits there alive = elim (cases_lt 0 (seeks p (thread_of S u)
   | inr none ↦ omega arith
   | inl some ↦
       let back = fits.0 in
-      let seek : seeks p (thread_of S u) ≡ same o p = ap (seeks p) back.is ∙ if_is (is_returning back.row.part) (same (found_object back.row) p) back.returns ∙ ap (λ (x : ObjNo). same x p) back.found in
+      let seek : seeks p (thread_of S u) ≡ same o p = ap (seeks p) back.is
+      ∙ if_is (is_returning back.row.part) (same (found_object back.row) p) back.returns
+      ∙ ap (λ (x : ObjNo). same x p) back.found in
       let at : o ≡ p = same_is o p (omega arith) in
       absurd (fits.1 (subst (λ (x : ObjNo). IsAlive (object_of S x)) (sym at) (not_gone_alive S.references.objects p there alive)))
 ]
@@ -150,17 +210,31 @@ pub one_row : (S : State) (u : ObjNo) (old row : ThreadRow) → thread_of S u �
 one_row S u old row a b = cc
 
 -- who finds an object is out on it then, and nobody less on another
-pub sound-find : (script : Script) (S : State) (t u o : ObjNo) → FitsMove script t (Find u o) S → AreRows script S → Sound script S (moved t (Find u o) S) (told (Find u o) S)
+pub sound-find : (script : Script) (S : State) (t u o : ObjNo) → FitsMove script t (Find u o) S → AreRows script S
+    → Sound script S (moved t (Find u o) S) (told (Find u o) S)
 sound-find script S t u o fits rows =
     let may = fits.0 in
     let f = with_found o in
     let threads = S.references.threads in
     let same_row = λ (row : ThreadRow) (is : thread_of S u ≡ Some row). one_row S u may.row row may.is is in
     sound-row-out script S u f (Seek o ∷ [])
-    (λ p inside alive. out-le S.mode.shared (total (seeks p) threads) (total (seeks p) (with_row threads u f)) (let a = total-with (seeks p) (option_map f) None threads u.0 refl in let b : seeks p (thread_of S u) ≡ 0 = ap (seeks p) may.is ∙ if_not (is_returning may.row.part) (same (found_object may.row) p) may.going in omega arith))
+    (λ p inside alive. out-le S.mode.shared (total (seeks p) threads) (total (seeks p) (with_row threads u f))
+    (let a = total-with (seeks p) (option_map f) None threads u.0 refl in
+    let b : seeks p (thread_of S u) ≡ 0 = ap (seeks p) may.is
+    ∙ if_not (is_returning may.row.part) (same (found_object may.row) p) may.going in omega arith))
     (record { link = λ row. refl; uses = λ row. refl }) (λ row is. refl)
     (λ row is h. let at = same_row row is in record {
-      thread = record { process = h.process; link = h.link; priority = h.priority; next_instruction = h.next_instruction; unused = λ before. subst (λ (r : ThreadRow). r.uses ≡ None) at may.unused; registers = h.registers; declared = h.declared; returns = λ back. subst (λ (r : ThreadRow). r.next_instruction < length (instructions_of script r.role)) at may.at };
+      thread = record {
+        process = h.process;
+        link = h.link;
+        priority = h.priority;
+        next_instruction = h.next_instruction;
+        unused = λ before. subst (λ (r : ThreadRow). r.uses ≡ None) at may.unused;
+        registers = h.registers;
+        declared = h.declared;
+        returns =
+            λ back. subst (λ (r : ThreadRow). r.next_instruction < length (instructions_of script r.role)) at may.at;
+      };
       process = refl;
       role = refl;
     })
@@ -184,34 +258,126 @@ sound-find script S t u o fits rows =
       locks = leaves-with_row threads u f S.references.owed S.synchronization.locks (λ row. refl);
       awaited = awaited-kept threads u f S.synchronization.requests S.synchronization.logons (λ row. refl) (λ row. refl) rows.synchronization.awaited;
     })
-    (spent-going S.references.objects S.references.handles threads u f (λ row is. subst (λ (r : ThreadRow). is_spent r.stage ≡ false) (same_row row is) may.unspent) (λ row e. e) rows.references.spent)
+    (spent-going S.references.objects S.references.handles threads u f
+    (λ row is. subst (λ (r : ThreadRow). is_spent r.stage ≡ false) (same_row row is) may.unspent)
+    (λ row e. e) rows.references.spent)
     (record {
       servers = servers-row script S u f (λ row. refl) rows;
-      messages = messages-with_row (IsUntold S.synchronization.requests S.synchronization.logons) threads S.serving.servers S.serving.messages u f (λ row is called was live. was live)
+      messages =
+          messages-with_row (IsUntold S.synchronization.requests S.synchronization.logons) threads S.serving.servers
+          S.serving.messages u f (λ row is called was live. was live)
           (let a = fewer-with_row sending_bit threads u f (λ row is. omega arith) in let b = rows.serving.messages.few in omega arith)
-          (fewer-with_row numbers_left threads u f (λ row is. let a = subst (λ (r : ThreadRow). begun r.part ≡ 0) (same_row row is) may.begins in omega arith)) rows.serving.messages;
+          (fewer-with_row numbers_left threads u f
+          (λ row is. let a = subst (λ (r : ThreadRow). begun r.part ≡ 0) (same_row row is) may.begins in omega arith))
+          rows.serving.messages;
     }) rows
 
-pub sound-write : (script : Script) (S : State) (t u : ObjNo) (x value : ℕ) → FitsMove script t (Write u x value) S → AreRows script S → Sound script S (moved t (Write u x value) S) (told (Write u x value) S)
-sound-write script S t u x value fits rows = sound-row script S u (with_register x value) [] (λ row is o. refl) (record { link = λ row. refl; uses = λ row. refl }) (λ row is. refl)
-    (λ row is h. record { thread = record { process = h.process; link = h.link; priority = h.priority; next_instruction = h.next_instruction; unused = h.unused; registers = length-set row.registers x value ∙ h.registers; declared = h.declared; returns = h.returns }; process = refl; role = refl })
-    (λ k. inr (paid-with_row S.references.threads u (with_register x value) (λ row h. h) k)) (silent S) (synchronization-kept script S u (with_register x value) (λ row h. h) (λ row. refl) (λ row. refl) rows) (spent-kept S.references.objects S.references.handles S.references.threads u (with_register x value) (record { stage = λ row. refl; unused = λ row e. e; waits = λ row e. e; going = λ row e. e; link = λ row e. e }) rows.references.spent) (serving-kept script S u (with_register x value) (λ row. refl) (record { live = λ row live. live; waits = λ row live. refl; sends = λ row. omega arith; left = λ row. omega arith }) rows) rows
+pub sound-write : (script : Script) (S : State) (t u : ObjNo) (x value : ℕ) → FitsMove script t (Write u x value) S
+    → AreRows script S → Sound script S (moved t (Write u x value) S) (told (Write u x value) S)
+sound-write script S t u x value fits rows =
+    sound-row script S u (with_register x value) [] (λ row is o. refl)
+    (record { link = λ row. refl; uses = λ row. refl }) (λ row is. refl)
+    (λ row is h. record {
+      thread = record {
+        process = h.process;
+        link = h.link;
+        priority = h.priority;
+        next_instruction = h.next_instruction;
+        unused = h.unused;
+        registers = length-set row.registers x value ∙ h.registers;
+        declared = h.declared;
+        returns = h.returns;
+      };
+      process = refl;
+      role = refl;
+    })
+    (λ k. inr (paid-with_row S.references.threads u (with_register x value) (λ row h. h) k)) (silent S)
+    (synchronization-kept script S u (with_register x value) (λ row h. h) (λ row. refl) (λ row. refl) rows)
+    (spent-kept S.references.objects S.references.handles S.references.threads u (with_register x value)
+    (record { stage = λ row. refl; unused = λ row e. e; waits = λ row e. e; going = λ row e. e; link = λ row e. e })
+    rows.references.spent) (serving-kept script S u (with_register x value) (λ row. refl)
+    (record {
+      live = λ row live. live;
+      waits = λ row live. refl;
+      sends = λ row. omega arith;
+      left = λ row. omega arith;
+    }) rows) rows
 
-pub sound-keep : (script : Script) (S : State) (t u : ObjNo) (number : ℕ) → FitsMove script t (Keep u number) S → AreRows script S → Sound script S (moved t (Keep u number) S) (told (Keep u number) S)
-sound-keep script S t u number fits rows = sound-row script S u (with_kept number) [] (λ row is. let back = is_back S u row is fits.0 in seeks-back (with_kept number) row back back) (record { link = λ row. refl; uses = λ row. refl }) (λ row is. refl)
-    (λ row is h. record { thread = record { process = h.process; link = h.link; priority = h.priority; next_instruction = h.next_instruction; unused = h.unused; registers = h.registers; declared = h.declared; returns = h.returns }; process = refl; role = refl })
-    (λ k. inr (paid-with_row S.references.threads u (with_kept number) (λ row h. h) k)) (silent S) (synchronization-kept script S u (with_kept number) (λ row h. h) (λ row. refl) (λ row. refl) rows) (spent-kept S.references.objects S.references.handles S.references.threads u (with_kept number) (record { stage = λ row. refl; unused = λ row e. e; waits = λ row e. e; going = λ row e. e; link = λ row e. e }) rows.references.spent) (serving-kept script S u (with_kept number) (λ row. refl) (record { live = λ row live. live; waits = λ row live. refl; sends = λ row. omega arith; left = λ row. omega arith }) rows) rows
+pub sound-keep : (script : Script) (S : State) (t u : ObjNo) (number : ℕ) → FitsMove script t (Keep u number) S
+    → AreRows script S → Sound script S (moved t (Keep u number) S) (told (Keep u number) S)
+sound-keep script S t u number fits rows =
+    sound-row script S u (with_kept number) []
+    (λ row is. let back = is_back S u row is fits.0 in seeks-back (with_kept number) row back back)
+    (record { link = λ row. refl; uses = λ row. refl }) (λ row is. refl)
+    (λ row is h. record {
+      thread = record {
+        process = h.process;
+        link = h.link;
+        priority = h.priority;
+        next_instruction = h.next_instruction;
+        unused = h.unused;
+        registers = h.registers;
+        declared = h.declared;
+        returns = h.returns;
+      };
+      process = refl;
+      role = refl;
+    })
+    (λ k. inr (paid-with_row S.references.threads u (with_kept number) (λ row h. h) k)) (silent S)
+    (synchronization-kept script S u (with_kept number) (λ row h. h) (λ row. refl) (λ row. refl) rows)
+    (spent-kept S.references.objects S.references.handles S.references.threads u (with_kept number)
+    (record { stage = λ row. refl; unused = λ row e. e; waits = λ row e. e; going = λ row e. e; link = λ row e. e })
+    rows.references.spent) (serving-kept script S u (with_kept number) (λ row. refl)
+    (record {
+      live = λ row live. live;
+      waits = λ row live. refl;
+      sends = λ row. omega arith;
+      left = λ row. omega arith;
+    }) rows) rows
 
-pub sound-write_message : (script : Script) (S : State) (t u : ObjNo) (y number : ℕ) → AreRows script S → Sound script S (moved t (WriteMessage u y number) S) (told (WriteMessage u y number) S)
-sound-write_message script S t u y number rows = sound-row script S u (with_message y number) [] (λ row is o. refl) (record { link = λ row. refl; uses = λ row. refl }) (λ row is. refl)
-    (λ row is h. record { thread = record { process = h.process; link = h.link; priority = h.priority; next_instruction = h.next_instruction; unused = h.unused; registers = h.registers; declared = h.declared; returns = h.returns }; process = refl; role = refl })
-    (λ k. inr (paid-with_row S.references.threads u (with_message y number) (λ row h. h) k)) (silent S) (synchronization-kept script S u (with_message y number) (λ row h. h) (λ row. refl) (λ row. refl) rows) (spent-kept S.references.objects S.references.handles S.references.threads u (with_message y number) (record { stage = λ row. refl; unused = λ row e. e; waits = λ row e. e; going = λ row e. e; link = λ row e. e }) rows.references.spent) (serving-kept script S u (with_message y number) (λ row. refl) (record { live = λ row live. live; waits = λ row live. refl; sends = λ row. omega arith; left = λ row. omega arith }) rows) rows
+pub sound-write_message : (script : Script) (S : State) (t u : ObjNo) (y number : ℕ) → AreRows script S
+    → Sound script S (moved t (WriteMessage u y number) S) (told (WriteMessage u y number) S)
+sound-write_message script S t u y number rows =
+    sound-row script S u (with_message y number) [] (λ row is o. refl)
+    (record { link = λ row. refl; uses = λ row. refl }) (λ row is. refl)
+    (λ row is h. record {
+      thread = record {
+        process = h.process;
+        link = h.link;
+        priority = h.priority;
+        next_instruction = h.next_instruction;
+        unused = h.unused;
+        registers = h.registers;
+        declared = h.declared;
+        returns = h.returns;
+      };
+      process = refl;
+      role = refl;
+    })
+    (λ k. inr (paid-with_row S.references.threads u (with_message y number) (λ row h. h) k)) (silent S)
+    (synchronization-kept script S u (with_message y number) (λ row h. h) (λ row. refl) (λ row. refl) rows)
+    (spent-kept S.references.objects S.references.handles S.references.threads u (with_message y number)
+    (record { stage = λ row. refl; unused = λ row e. e; waits = λ row e. e; going = λ row e. e; link = λ row e. e })
+    rows.references.spent) (serving-kept script S u (with_message y number) (λ row. refl)
+    (record {
+      live = λ row live. live;
+      waits = λ row live. refl;
+      sends = λ row. omega arith;
+      left = λ row. omega arith;
+    }) rows) rows
 
 -- a thread that goes on to a step begins a sending at most
-pub begins-sending : (S : State) (u : ObjNo) (part : Part) (f : ThreadRow → ThreadRow) → ((row : ThreadRow) → (f row).part ≡ Some part) → MaySend (Some part) S → sessions_used S.references.threads S.serving.servers S.serving.messages.outstanding ≤ sessions_there S.serving.servers → sessions_used (with_row S.references.threads u f) S.serving.servers S.serving.messages.outstanding ≤ sessions_there S.serving.servers
+pub begins-sending : (S : State) (u : ObjNo) (part : Part) (f : ThreadRow → ThreadRow)
+    → ((row : ThreadRow) → (f row).part ≡ Some part) → MaySend (Some part) S
+    → sessions_used S.references.threads S.serving.servers S.serving.messages.outstanding
+    ≤ sessions_there S.serving.servers
+    → sessions_used (with_row S.references.threads u f) S.serving.servers S.serving.messages.outstanding
+    ≤ sessions_there S.serving.servers
 begins-sending S u part f goes spare few = by part (λ row. ap is_sending (goes row)) spare
   where
-    by : (p : Part) → ((row : ThreadRow) → is_sending (f row).part ≡ is_sending (Some p)) → MaySend (Some p) S → sessions_used (with_row S.references.threads u f) S.serving.servers S.serving.messages.outstanding ≤ sessions_there S.serving.servers
+    by : (p : Part) → ((row : ThreadRow) → is_sending (f row).part ≡ is_sending (Some p)) → MaySend (Some p) S
+        → sessions_used (with_row S.references.threads u f) S.serving.servers S.serving.messages.outstanding
+        ≤ sessions_there S.serving.servers
     by Send sends may = let a = total-with sending_bit (option_map f) None S.references.threads u.0 refl in let b = one (thread_of S u) in omega arith
       where
         one : (x : Option ThreadRow) → sending_bit (option_map f x) ≤ 1
@@ -219,86 +385,238 @@ begins-sending S u part f goes spare few = by part (λ row. ap is_sending (goes 
         one (Some row) = let a = sends row in omega arith
     by p sends may = let a = fewer-with_row sending_bit S.references.threads u f (λ row is. let b = sends row in omega arith) in omega arith
 
-pub sound-go_on : (script : Script) (S : State) (t u : ObjNo) (part : Part) → FitsMove script t (GoOn u part) S → AreRows script S → Sound script S (moved t (GoOn u part) S) (told (GoOn u part) S)
+pub sound-go_on : (script : Script) (S : State) (t u : ObjNo) (part : Part) → FitsMove script t (GoOn u part) S
+    → AreRows script S → Sound script S (moved t (GoOn u part) S) (told (GoOn u part) S)
 sound-go_on script S t u part fits rows =
     let f : ThreadRow → ThreadRow = λ row. record row { part = Some part } in
-    sound-row script S u f [] (λ row is. seeks-back f row (is_back S u row is fits.0.going) fits.0.other) (record { link = λ row. refl; uses = λ row. refl }) (λ row is. refl)
-    (λ row is h. record { thread = record { process = h.process; link = h.link; priority = h.priority; next_instruction = h.next_instruction; unused = fits.0.unused row is; registers = h.registers; declared = h.declared; returns = λ e. let no = fits.0.other in absurd (cc) }; process = refl; role = refl })
-    (λ k. inr (paid-with_row S.references.threads u f (λ row h. fits.0.other) k)) (silent S) (synchronization-kept script S u f (λ row h. (h.0, h.1, h.2, fits.0.other)) (λ row. refl) (λ row. refl) rows) (spent-going S.references.objects S.references.handles S.references.threads u f fits.0.unspent (λ row e. e) rows.references.spent) (record {
+    sound-row script S u f [] (λ row is. seeks-back f row (is_back S u row is fits.0.going) fits.0.other)
+    (record { link = λ row. refl; uses = λ row. refl }) (λ row is. refl)
+    (λ row is h. record {
+      thread = record {
+        process = h.process;
+        link = h.link;
+        priority = h.priority;
+        next_instruction = h.next_instruction;
+        unused = fits.0.unused row is;
+        registers = h.registers;
+        declared = h.declared;
+        returns = λ e. let no = fits.0.other in absurd (cc);
+      };
+      process = refl;
+      role = refl;
+    })
+    (λ k. inr (paid-with_row S.references.threads u f (λ row h. fits.0.other) k)) (silent S)
+    (synchronization-kept script S u f (λ row h. (h.0, h.1, h.2, fits.0.other)) (λ row. refl) (λ row. refl) rows)
+    (spent-going S.references.objects S.references.handles S.references.threads u f fits.0.unspent
+    (λ row e. e) rows.references.spent) (record {
       servers = servers-row script S u f (λ row. refl) rows;
-      messages = messages-with_row (IsUntold S.synchronization.requests S.synchronization.logons) S.references.threads S.serving.servers S.serving.messages u f (λ row is called was live. was live) (begins-sending S u part f (λ row. refl) fits.1 rows.serving.messages.few)
+      messages =
+          messages-with_row (IsUntold S.synchronization.requests S.synchronization.logons) S.references.threads
+          S.serving.servers S.serving.messages u f (λ row is called was live. was live)
+          (begins-sending S u part f (λ row. refl) fits.1 rows.serving.messages.few)
           (fewer-with_row numbers_left S.references.threads u f (λ row is. let a = fits.0.ends row is in omega arith)) rows.serving.messages;
     }) rows
 
 -- a change of what a thread waits for that stands among no waiters
-sound-waiting : (script : Script) (S : State) (u : ObjNo) (what : Waiting) → WaitsNowhere S u → IsUncalled S u → AreSynchronized script (with_row S.references.threads u (with_waiting what)) S.synchronization.nano → AreSpent S.references.objects S.references.handles (with_row S.references.threads u (with_waiting what)) → ((row : ThreadRow) (o : ObjNo) → thread_of S u ≡ Some row → what ≡ waiting.Lock o → row.stage ≡ Live) → AreRows script S → Sound script S (record S { references = record S.references { threads = with_row S.references.threads u (with_waiting what) } }) []
-sound-waiting script S u what nowhere uncalled nano spent live rows = sound-row script S u (with_waiting what) [] (λ row is o. refl) (record { link = λ row. refl; uses = λ row. refl }) (λ row is. refl)
-    (λ row is h. record { thread = record { process = h.process; link = h.link; priority = h.priority; next_instruction = h.next_instruction; unused = h.unused; registers = h.registers; declared = h.declared; returns = h.returns }; process = refl; role = refl })
+sound-waiting : (script : Script) (S : State) (u : ObjNo) (what : Waiting) → WaitsNowhere S u → IsUncalled S u
+    → AreSynchronized script (with_row S.references.threads u (with_waiting what)) S.synchronization.nano
+    → AreSpent S.references.objects S.references.handles (with_row S.references.threads u (with_waiting what))
+    → ((row : ThreadRow) (o : ObjNo) → thread_of S u ≡ Some row → what ≡ waiting.Lock o → row.stage ≡ Live)
+    → AreRows script S
+    → Sound script S (record S {
+      references = record S.references
+          { threads = with_row S.references.threads u (with_waiting what) };
+    }) []
+sound-waiting script S u what nowhere uncalled nano spent live rows =
+    sound-row script S u (with_waiting what) [] (λ row is o. refl) (record { link = λ row. refl; uses = λ row. refl })
+    (λ row is. refl)
+    (λ row is h. record {
+      thread = record {
+        process = h.process;
+        link = h.link;
+        priority = h.priority;
+        next_instruction = h.next_instruction;
+        unused = h.unused;
+        registers = h.registers;
+        declared = h.declared;
+        returns = h.returns;
+      };
+      process = refl;
+      role = refl;
+    })
     (λ k. inr (paid-with_row S.references.threads u (with_waiting what) (λ row h. h) k)) (silent S) (record {
       nano = nano;
       locks = leaves-nowhere S.references.threads u (with_waiting what) S.references.owed S.synchronization.locks nowhere;
-      awaited = awaited-with_row S.references.threads u (with_waiting what) S.synchronization.requests S.synchronization.logons (λ row is live. live) (λ row o is was e. live row o is e) rows.synchronization.awaited;
+      awaited =
+          awaited-with_row S.references.threads u (with_waiting what) S.synchronization.requests S.synchronization.logons
+          (λ row is live. live) (λ row o is was e. live row o is e) rows.synchronization.awaited;
     }) spent (record {
       servers = servers-row script S u (with_waiting what) (λ row. refl) rows;
-      messages = messages-with_row (IsUntold S.synchronization.requests S.synchronization.logons) S.references.threads S.serving.servers S.serving.messages u (with_waiting what) (λ row is called was live. absurd (let none = uncalled row is live in omega arith))
-          (let a = fewer-with_row sending_bit S.references.threads u (with_waiting what) (λ row is. omega arith) in let b = rows.serving.messages.few in omega arith) (fewer-with_row numbers_left S.references.threads u (with_waiting what) (λ row is. omega arith)) rows.serving.messages;
+      messages =
+          messages-with_row (IsUntold S.synchronization.requests S.synchronization.logons) S.references.threads
+          S.serving.servers S.serving.messages u (with_waiting what)
+          (λ row is called was live. absurd (let none = uncalled row is live in omega arith))
+          (let a = fewer-with_row sending_bit S.references.threads u (with_waiting what) (λ row is. omega arith) in
+          let b = rows.serving.messages.few in omega arith)
+          (fewer-with_row numbers_left S.references.threads u (with_waiting what) (λ row is. omega arith))
+          rows.serving.messages;
     }) rows
 
-pub sound-wait : (script : Script) (S : State) (t u : ObjNo) (what : Waiting) → FitsMove script t (Wait u what) S → AreRows script S → Sound script S (moved t (Wait u what) S) (told (Wait u what) S)
-sound-wait script S t u what fits rows = sound-waiting script S u what fits.1 fits.3 (synchronized-unheld script S.references.threads u (with_waiting what) S.synchronization.nano fits.0 rows.synchronization.nano) (spent-going S.references.objects S.references.handles S.references.threads u (with_waiting what) (λ row is. ap is_spent (fits.2 row is)) (λ row e. e) rows.references.spent) (λ row o is e. fits.2 row is) rows
+pub sound-wait : (script : Script) (S : State) (t u : ObjNo) (what : Waiting) → FitsMove script t (Wait u what) S
+    → AreRows script S → Sound script S (moved t (Wait u what) S) (told (Wait u what) S)
+sound-wait script S t u what fits rows =
+    sound-waiting script S u what fits.1 fits.3
+    (synchronized-unheld script S.references.threads u
+    (with_waiting what) S.synchronization.nano fits.0 rows.synchronization.nano)
+    (spent-going S.references.objects S.references.handles S.references.threads u (with_waiting what)
+    (λ row is. ap is_spent (fits.2 row is)) (λ row e. e) rows.references.spent) (λ row o is e. fits.2 row is) rows
 
-pub sound-wake : (script : Script) (S : State) (t u : ObjNo) → FitsMove script t (Wake u) S → AreRows script S → Sound script S (moved t (Wake u) S) (told (Wake u) S)
-sound-wake script S t u fits rows = sound-waiting script S u waiting.Nothing fits.0 fits.1 (synchronized-with_row script S.references.threads u (with_waiting waiting.Nothing) S.synchronization.nano (λ row h. (refl, h.1, h.2, h.3)) rows.synchronization.nano) (spent-kept S.references.objects S.references.handles S.references.threads u (with_waiting waiting.Nothing) (record { stage = λ row. refl; unused = λ row e. e; waits = λ row e. refl; going = λ row e. e; link = λ row e. e }) rows.references.spent) (λ row o is e. absurd (cc)) rows
+pub sound-wake : (script : Script) (S : State) (t u : ObjNo) → FitsMove script t (Wake u) S → AreRows script S
+    → Sound script S (moved t (Wake u) S) (told (Wake u) S)
+sound-wake script S t u fits rows =
+    sound-waiting script S u waiting.Nothing fits.0 fits.1
+    (synchronized-with_row script S.references.threads u (with_waiting waiting.Nothing) S.synchronization.nano
+    (λ row h. (refl, h.1, h.2, h.3)) rows.synchronization.nano)
+    (spent-kept S.references.objects S.references.handles S.references.threads u (with_waiting waiting.Nothing)
+    (record { stage = λ row. refl; unused = λ row e. e; waits = λ row e. refl; going = λ row e. e; link = λ row e. e })
+    rows.references.spent) (λ row o is e. absurd (cc)) rows
 
-pub sound-priority : (script : Script) (S : State) (t u : ObjNo) (priority : ℕ) → FitsMove script t (SetPriority u priority) S → AreRows script S → Sound script S (moved t (SetPriority u priority) S) (told (SetPriority u priority) S)
-sound-priority script S t u priority fits rows = sound-row script S u (with_priority priority) [] (λ row is o. refl) (record { link = λ row. refl; uses = λ row. refl }) (λ row is. refl)
-    (λ row is h. record { thread = record { process = h.process; link = h.link; priority = fits; next_instruction = h.next_instruction; unused = h.unused; registers = h.registers; declared = h.declared; returns = h.returns }; process = refl; role = refl })
-    (λ k. inr (paid-with_row S.references.threads u (with_priority priority) (λ row h. h) k)) (silent S) (synchronization-kept script S u (with_priority priority) (λ row h. h) (λ row. refl) (λ row. refl) rows) (spent-kept S.references.objects S.references.handles S.references.threads u (with_priority priority) (record { stage = λ row. refl; unused = λ row e. e; waits = λ row e. e; going = λ row e. e; link = λ row e. e }) rows.references.spent) (serving-kept script S u (with_priority priority) (λ row. refl) (record { live = λ row live. live; waits = λ row live. refl; sends = λ row. omega arith; left = λ row. omega arith }) rows) rows
+pub sound-priority : (script : Script) (S : State) (t u : ObjNo) (priority : ℕ)
+    → FitsMove script t (SetPriority u priority) S → AreRows script S
+    → Sound script S (moved t (SetPriority u priority) S) (told (SetPriority u priority) S)
+sound-priority script S t u priority fits rows =
+    sound-row script S u (with_priority priority) [] (λ row is o. refl)
+    (record { link = λ row. refl; uses = λ row. refl }) (λ row is. refl)
+    (λ row is h. record {
+      thread = record {
+        process = h.process;
+        link = h.link;
+        priority = fits;
+        next_instruction = h.next_instruction;
+        unused = h.unused;
+        registers = h.registers;
+        declared = h.declared;
+        returns = h.returns;
+      };
+      process = refl;
+      role = refl;
+    })
+    (λ k. inr (paid-with_row S.references.threads u (with_priority priority) (λ row h. h) k)) (silent S)
+    (synchronization-kept script S u (with_priority priority) (λ row h. h) (λ row. refl) (λ row. refl) rows)
+    (spent-kept S.references.objects S.references.handles S.references.threads u (with_priority priority)
+    (record { stage = λ row. refl; unused = λ row e. e; waits = λ row e. e; going = λ row e. e; link = λ row e. e })
+    rows.references.spent) (serving-kept script S u (with_priority priority) (λ row. refl)
+    (record {
+      live = λ row live. live;
+      waits = λ row live. refl;
+      sends = λ row. omega arith;
+      left = λ row. omega arith;
+    }) rows) rows
 
 -- a state with other rows by which threads synchronize, but for locks and mutexes, and with other services
 abbrev pub with_rest : State → Synchronization → Services → State
-with_rest S new services = record S { synchronization = record new { locks = S.synchronization.locks; mutexes = S.synchronization.mutexes }; services = services }
+with_rest S new services = record S {
+  synchronization = record new { locks = S.synchronization.locks; mutexes = S.synchronization.mutexes };
+  services = services;
+}
 
 -- such a change leaves all else
-pub sound-rest : (script : Script) (S : State) (new : Synchronization) (services : Services) (effects : List Effect) → IsSilent S effects → AreSynchronizationRows script (length S.references.threads) (length S.references.objects) S.references.threads S.references.owed (with_rest S new services).synchronization → AreServiceRows S.references.threads services → AreMessages (IsUntold new.requests new.logons) S.references.threads S.serving.servers S.serving.messages → AreRows script S → Sound script S (with_rest S new services) effects
+pub sound-rest : (script : Script) (S : State) (new : Synchronization) (services : Services) (effects : List Effect)
+    → IsSilent S effects
+    → AreSynchronizationRows script (length S.references.threads)
+    (length S.references.objects) S.references.threads S.references.owed (with_rest S new services).synchronization
+    → AreServiceRows S.references.threads services
+    → AreMessages (IsUntold new.requests new.logons) S.references.threads S.serving.servers S.serving.messages
+    → AreRows script S → Sound script S (with_rest S new services) effects
 sound-rest script S new services effects quiet synchronization kept messages rows =
     let T : State = with_rest S new services in
-    sound-of script S T effects rows (record { handles_long = refl; threads_long = refl; owed_long = refl; objects_few = rows.references.sized.objects_few; tables = rows.references.tables; threads = rows.references.threads; duties = rows.references.duties; synchronization = synchronization; services = kept; spent = rows.references.spent; serving = record { servers = rows.serving.servers; messages = messages } })
-    (lives-quiet S T effects refl quiet.quiet (λ o. let b = quiet.pluses o in let c = quiet.quiet.minuses o in omega arith) (λ o. refl) (λ o inside alive. omega arith) (λ o h. let b = quiet.pluses o in absurd (omega arith)) quiet.found)
+    sound-of script S T effects rows (record {
+      handles_long = refl;
+      threads_long = refl;
+      owed_long = refl;
+      objects_few = rows.references.sized.objects_few;
+      tables = rows.references.tables;
+      threads = rows.references.threads;
+      duties = rows.references.duties;
+      synchronization = synchronization;
+      services = kept;
+      spent = rows.references.spent;
+      serving = record { servers = rows.serving.servers; messages = messages };
+    })
+    (lives-quiet S T effects refl quiet.quiet
+    (λ o. let b = quiet.pluses o in let c = quiet.quiet.minuses o in omega arith) (λ o. refl)
+    (λ o inside alive. omega arith) (λ o h. let b = quiet.pluses o in absurd (omega arith)) quiet.found)
     (record { fits = quiet.fits; moves = quiet.after })
 
 -- what is told while the rows stay
 pub sound-silent : (script : Script) (S : State) (effects : List Effect) → IsSilent S effects → AreRows script S → Sound script S S effects
-sound-silent script S effects quiet rows = sound-rest script S S.synchronization S.services effects quiet rows.synchronization rows.services rows.serving.messages rows
+sound-silent script S effects quiet rows =
+    sound-rest script S S.synchronization S.services effects quiet rows.synchronization rows.services
+    rows.serving.messages rows
 
 -- services change alone
-pub sound-services : (script : Script) (S : State) (services : Services) → AreServiceRows S.references.threads services → AreRows script S → Sound script S (record S { services = services }) []
+pub sound-services : (script : Script) (S : State) (services : Services) → AreServiceRows S.references.threads services
+    → AreRows script S → Sound script S (record S { services = services }) []
 sound-services script S services kept rows = sound-rest script S S.synchronization services [] (silent S) rows.synchronization kept rows.serving.messages rows
 
 -- who comes back to an object that is gone isn't out on it any more, and still on no other
-pub sound-miss : (script : Script) (S : State) (t u o : ObjNo) → FitsMove script t (Miss u o) S → AreRows script S → Sound script S (moved t (Miss u o) S) (told (Miss u o) S)
+pub sound-miss : (script : Script) (S : State) (t u o : ObjNo) → FitsMove script t (Miss u o) S → AreRows script S
+    → Sound script S (moved t (Miss u o) S) (told (Miss u o) S)
 sound-miss script S t u o fits rows =
     let f = with_missed in
     let threads = S.references.threads in
     let back = fits.0.0 in
     sound-row-out script S u f (Missed o ∷ [])
-    (λ p inside alive. out-le S.mode.shared (total (seeks p) threads) (total (seeks p) (with_row threads u f)) (let a = total-with (seeks p) (option_map f) None threads u.0 refl in let b = missed_none S u o p fits.0 inside alive in omega arith))
+    (λ p inside alive. out-le S.mode.shared (total (seeks p) threads) (total (seeks p) (with_row threads u f))
+    (let a = total-with (seeks p) (option_map f) None threads u.0 refl in
+    let b = missed_none S u o p fits.0 inside alive in omega arith))
     (record { link = λ row. refl; uses = λ row. refl }) (λ row is. refl)
     (λ row is h. record {
-      thread = record { process = h.process; link = h.link; priority = h.priority; next_instruction = h.next_instruction; unused = λ before. h.unused (let e = subst (λ (r : ThreadRow). is_returning r.part ≡ true) (one_row S u back.row row back.is is) back.returns in returning_before row.part e); registers = h.registers; declared = h.declared; returns = λ e. absurd (cc) };
+      thread = record {
+        process = h.process;
+        link = h.link;
+        priority = h.priority;
+        next_instruction = h.next_instruction;
+        unused =
+            λ before. h.unused (let e = subst (λ (r : ThreadRow). is_returning r.part ≡ true)
+            (one_row S u back.row row back.is is) back.returns in returning_before row.part e);
+        registers = h.registers;
+        declared = h.declared;
+        returns = λ e. absurd (cc);
+      };
       process = refl;
       role = refl;
     })
     (λ k. inr (paid-with_row threads u f (λ row h. refl) k))
-    (record { quiet = record { minuses = λ p. refl; deaths = λ p. refl; removals = λ p. refl }; pluses = λ p. refl; found = λ p h. absurd (omega arith); fits = (tt, tt); after = λ g x. refl })
+    (record {
+      quiet = record { minuses = λ p. refl; deaths = λ p. refl; removals = λ p. refl };
+      pluses = λ p. refl;
+      found = λ p h. absurd (omega arith);
+      fits = (tt, tt);
+      after = λ g x. refl;
+    })
     (synchronization-kept script S u f (λ row h. (h.0, h.1, h.2, refl)) (λ row. refl) (λ row. refl) rows)
-    (spent-kept S.references.objects S.references.handles threads u f (record { stage = λ row. refl; unused = λ row e. e; waits = λ row e. e; going = λ row e. refl; link = λ row e. e }) rows.references.spent)
+    (spent-kept S.references.objects S.references.handles threads u f
+    (record { stage = λ row. refl; unused = λ row e. e; waits = λ row e. e; going = λ row e. refl; link = λ row e. e })
+    rows.references.spent)
     (record {
       servers = servers-row script S u f (λ row. refl) rows;
-      messages = messages-with_row (IsUntold S.synchronization.requests S.synchronization.logons) threads S.serving.servers S.serving.messages u f (λ row is called was live. was live)
+      messages =
+          messages-with_row (IsUntold S.synchronization.requests S.synchronization.logons) threads S.serving.servers
+          S.serving.messages u f (λ row is called was live. was live)
           (let a = fewer-with_row sending_bit threads u f (λ row is. omega arith) in let b = rows.serving.messages.few in omega arith)
-          (fewer-with_row numbers_left threads u f (λ row is. let e = subst (λ (r : ThreadRow). is_returning r.part ≡ true) (one_row S u back.row row back.is is) back.returns in let a = returning_begun row.part e in omega arith)) rows.serving.messages;
+          (fewer-with_row numbers_left threads u f
+          (λ row is. let e = subst (λ (r : ThreadRow). is_returning r.part ≡ true)
+          (one_row S u back.row row back.is is) back.returns in let a = returning_begun row.part e in omega arith))
+          rows.serving.messages;
     }) rows
 
-pub sound-fill : (script : Script) (S : State) (t p : ObjNo) (at long byte : ℕ) → FitsMove script t (Fill p at long byte) S → AreRows script S → Sound script S (moved t (Fill p at long byte) S) (told (Fill p at long byte) S)
-sound-fill script S t p at long byte fits rows = sound-services script S (record S.services { memories = with_memory S.services.memories p (filled at long byte) }) (record { memories = memories-filled S.references.threads S.services.memories p at long byte fits rows.services.memories }) rows
+pub sound-fill : (script : Script) (S : State) (t p : ObjNo) (at long byte : ℕ)
+    → FitsMove script t (Fill p at long byte) S → AreRows script S
+    → Sound script S (moved t (Fill p at long byte) S) (told (Fill p at long byte) S)
+sound-fill script S t p at long byte fits rows =
+    sound-services script S (record S.services { memories = with_memory S.services.memories p (filled at long byte) })
+    (record {
+      memories = memories-filled S.references.threads S.services.memories p at long byte fits
+          rows.services.memories;
+    }) rows

@@ -34,7 +34,8 @@ use Rattle.move_laws.proofs.MoveLaws.Loses.{sound-lose}
 use Rattle.move_laws.proofs.MoveLaws.Pays.{sound-pay_close, sound-pay_sweep}
 
 -- what a move does that fits
-pub sound-move : (script : Script) (S : State) (t : ObjNo) (m : Move) → FitsMove script t m S → total weight (owed_of S t) + most_owed m ≤ 12 → Sane script t S → Sound script S (moved t m S) (told m S)
+pub sound-move : (script : Script) (S : State) (t : ObjNo) (m : Move) → FitsMove script t m S
+    → total weight (owed_of S t) + most_owed m ≤ 12 → Sane script t S → Sound script S (moved t m S) (told m S)
 sound-move script S t (Make kind name h) fits few s = sound-make script S t kind name h fits s.rows
 sound-move script S t (Gain h o) fits few s = sound-gain script S t h o fits s.rows
 sound-move script S t (Lose h o) fits few s = sound-lose script S t h o fits few s.inside s.rows
@@ -44,11 +45,15 @@ sound-move script S t (Miss u o) fits few s = sound-miss script S t u o fits s.r
 sound-move script S t (GoOn u part) fits few s = sound-go_on script S t u part fits s.rows
 sound-move script S t (Keep u number) fits few s = sound-keep script S t u number fits s.rows
 sound-move script S t (WriteMessage u y number) fits few s = sound-write_message script S t u y number s.rows
-sound-move script S t (PutDown u) fits few s = sound-put_down script S t u fits (subst (λ (y : ObjNo). total weight (owed_of S y) + 4 ≤ 12) (sym fits.0) few) (subst (λ (y : ObjNo). y.0 < length S.references.threads) (sym fits.0) s.inside) s.rows
+sound-move script S t (PutDown u) fits few s =
+    sound-put_down script S t u fits (subst (λ (y : ObjNo). total weight (owed_of S y) + 4 ≤ 12) (sym fits.0) few)
+    (subst (λ (y : ObjNo). y.0 < length S.references.threads) (sym fits.0) s.inside) s.rows
 sound-move script S t (Servers m) fits few s = sound-servers script S t m fits s.rows
 sound-move script S t (Messages m) fits few s = sound-messages script S t m fits few s.rows
 sound-move script S t (Write u x value) fits few s = sound-write script S t u x value fits s.rows
-sound-move script S t (Advance u) fits few s = sound-advance script S t u fits (subst (λ (y : ObjNo). total weight (owed_of S y) + 4 ≤ 12) (sym fits.0) few) (subst (λ (y : ObjNo). y.0 < length S.references.threads) (sym fits.0) s.inside) s.rows
+sound-move script S t (Advance u) fits few s =
+    sound-advance script S t u fits (subst (λ (y : ObjNo). total weight (owed_of S y) + 4 ≤ 12) (sym fits.0) few)
+    (subst (λ (y : ObjNo). y.0 < length S.references.threads) (sym fits.0) s.inside) s.rows
 sound-move script S t (Wait u what) fits few s = sound-wait script S t u what fits s.rows
 sound-move script S t (Wake u) fits few s = sound-wake script S t u fits s.rows
 sound-move script S t (SetPriority u priority) fits few s = sound-priority script S t u priority fits s.rows
@@ -63,13 +68,18 @@ sound-move script S t (Copies m) fits few s = sound-copies script S t m fits s.r
 sound-move script S t (Pay what) fits few s = absurd fits
 
 -- what paying the oldest duty does
-pub sound-pay : (script : Script) (S : State) (t : ObjNo) (what : Owed) (rest : List Owed) → owed_of S t ≡ what ∷ rest → Sane script t S → Sound script S (moved t (Pay what) S) (told (Pay what) S)
+pub sound-pay : (script : Script) (S : State) (t : ObjNo) (what : Owed) (rest : List Owed) → owed_of S t ≡ what ∷ rest
+    → Sane script t S → Sound script S (moved t (Pay what) S) (told (Pay what) S)
 sound-pay script S t (Close h o) rest e s = sound-pay_close script S t h o rest e s.inside s.rows
 sound-pay script S t (Sweep o) rest e s = sound-pay_sweep script S t o rest e s.inside s.rows
 
 -- a move adds so much at most to the weight of what the thread owes
-pub weight-move : (script : Script) (S : State) (t : ObjNo) (m : Move) → FitsMove script t m S → total weight (owed_of (moved t m S) t) ≤ total weight (owed_of S t) + most_owed m
-weight-move script S t (Lose h o) fits = let a = weight-owing S.references.owed t (owed_by_close (dies S o) o (link_of S o)) in let b = close_weight (dies S o) o (link_of S o) in omega arith
+pub weight-move : (script : Script) (S : State) (t : ObjNo) (m : Move) → FitsMove script t m S
+    → total weight (owed_of (moved t m S) t) ≤ total weight (owed_of S t) + most_owed m
+weight-move script S t (Lose h o) fits =
+    let a = weight-owing S.references.owed t (owed_by_close (dies S o) o (link_of S o)) in
+    let b = close_weight (dies S o) o (link_of S o) in
+    omega arith
 weight-move script S t (Advance u) fits = subst (λ (y : ObjNo). total weight (owed_of (moved t (Advance u) S) y) ≤ total weight (owed_of S y) + 4) fits.0
     (let a = weight-owing S.references.owed u (owed_use u (use_of S u)) in let b = use_weight u (use_of S u) in omega arith)
 weight-move script S t (PutDown u) fits = subst (λ (y : ObjNo). total weight (owed_of (moved t (PutDown u) S) y) ≤ total weight (owed_of S y) + 4) fits.0
@@ -107,16 +117,21 @@ moves_remove script S t (m ∷ ms) p fits =
 pub sane-after : (script : Script) (S T : State) (t : ObjNo) (effects : List Effect) → Sane script t S → Sound script S T effects → Sane script t T
 sane-after script S T t effects s h = record { rows = h.rows; inside = let a = h.long in let b = s.inside in omega arith }
 
-pub each-sound : (script : Script) (S : State) (t : ObjNo) (ms : List Move) → EachFits script t ms S → total weight (owed_of S t) + total most_owed ms ≤ 12 → Sane script t S → Sound script S (perform t ms S) (tell t ms S)
+pub each-sound : (script : Script) (S : State) (t : ObjNo) (ms : List Move) → EachFits script t ms S
+    → total weight (owed_of S t) + total most_owed ms ≤ 12 → Sane script t S
+    → Sound script S (perform t ms S) (tell t ms S)
 each-sound script S t [] fits few s = sound-none script S s.rows
 each-sound script S t (m ∷ ms) fits few s =
     let T = moved t m S in
     let one = sound-move script S t m fits.0 (omega arith) s in
     let w = weight-move script S t m fits.0 in
-    sound-then script S T (perform t ms T) (told m S) (tell t ms T) one (each-sound script T t ms fits.1 (omega arith) (sane-after script S T t (told m S) s one)) (λ p. moves_remove script T t ms p fits.1)
+    sound-then script S T (perform t ms T) (told m S) (tell t ms T) one
+    (each-sound script T t ms fits.1 (omega arith) (sane-after script S T t (told m S) s one))
+    (λ p. moves_remove script T t ms p fits.1)
 
 -- what the moves of an action do
-pub sound-moves : (script : Script) (S : State) (t : ObjNo) (ms : List Move) → Fits script t ms S → Sane script t S → Sound script S (perform t ms S) (tell t ms S)
+pub sound-moves : (script : Script) (S : State) (t : ObjNo) (ms : List Move) → Fits script t ms S → Sane script t S
+    → Sound script S (perform t ms S) (tell t ms S)
 sound-moves script S t ms fits s = each-sound script S t ms fits.each fits.few s
 
 -- references move as a move tells, and as the moves of an action tell

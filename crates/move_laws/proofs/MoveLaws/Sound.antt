@@ -18,7 +18,8 @@ pub record Sound (script : Script) (S T : State) (effects : List Effect) : Type 
   pub rows : AreRows script T
   pub long : length T.references.threads ≡ length S.references.threads
 
-pub sound-then : (script : Script) (S T U : State) (es fs : List Effect) → Sound script S T es → Sound script T U fs → ((o : ObjNo) → removals fs o ≡ 0) → Sound script S U (es ++ fs)
+pub sound-then : (script : Script) (S T U : State) (es fs : List Effect) → Sound script S T es → Sound script T U fs
+    → ((o : ObjNo) → removals fs o ≡ 0) → Sound script S U (es ++ fs)
 sound-then script S T U es fs h k none = record {
   lives = lives-then S T U es fs h.lives k.lives none;
   holders = holders-then S T U es fs h.holders k.holders;
@@ -27,7 +28,12 @@ sound-then script S T U es fs h k none = record {
 }
 
 pub sound-none : (script : Script) (S : State) → AreRows script S → Sound script S S []
-sound-none script S rows = record { lives = lives-none S S refl (λ o. refl) (λ o. refl) (λ o. refl); holders = holders-none S S (λ g x. refl); rows = rows; long = refl }
+sound-none script S rows = record {
+  lives = lives-none S S refl (λ o. refl) (λ o. refl) (λ o. refl);
+  holders = holders-none S S (λ g x. refl);
+  rows = rows;
+  long = refl;
+}
 
 -- The parts of the new rows that a move may change: those of references one by one, without its sizes, and each other group as one.
 pub record AreParts (script : Script) (S T : State) : Type 0 where
@@ -39,11 +45,14 @@ pub record AreParts (script : Script) (S T : State) : Type 0 where
   pub threads : AreThreads script T.references.threads
   pub duties : AreDuties T.references.threads T.serving.servers T.serving.messages.accepted T.references.owed
   pub spent : AreSpent T.references.objects T.references.handles T.references.threads
-  pub synchronization : AreSynchronizationRows script (length S.references.threads) (length T.references.objects) T.references.threads T.references.owed T.synchronization
-  pub serving : AreServingRows (length T.references.objects) T.references.threads T.synchronization.locks (IsUntold T.synchronization.requests T.synchronization.logons) T.serving
+  pub synchronization : AreSynchronizationRows script (length S.references.threads)
+      (length T.references.objects) T.references.threads T.references.owed T.synchronization
+  pub serving : AreServingRows (length T.references.objects) T.references.threads T.synchronization.locks
+      (IsUntold T.synchronization.requests T.synchronization.logons) T.serving
   pub services : AreServiceRows T.references.threads T.services
 
-pub sound-of : (script : Script) (S T : State) (effects : List Effect) → AreRows script S → AreParts script S T → LivesMove S T effects → HoldersMove S T effects → Sound script S T effects
+pub sound-of : (script : Script) (S T : State) (effects : List Effect) → AreRows script S → AreParts script S T
+    → LivesMove S T effects → HoldersMove S T effects → Sound script S T effects
 sound-of script S T effects rows parts lives holders =
     let s = rows.references.sized in
     let few = s.threads_few in
@@ -66,7 +75,10 @@ sound-of script S T effects rows parts lives holders =
           duties = parts.duties;
           spent = parts.spent;
         };
-        synchronization = subst (λ (n : ℕ). AreSynchronizationRows script n (length T.references.objects) T.references.threads T.references.owed T.synchronization) (sym parts.threads_long) parts.synchronization;
+        synchronization =
+            subst (λ (n : ℕ). AreSynchronizationRows script n
+            (length T.references.objects) T.references.threads T.references.owed T.synchronization)
+            (sym parts.threads_long) parts.synchronization;
         serving = parts.serving;
         services = parts.services;
         lives = lives-kept S T effects lives rows.lives;

@@ -43,13 +43,18 @@ duties_le o (what ∷ rest) = let a = owed_le o what in let b = duties_le o rest
 
 -- a thread holds a mutex once at most
 held_le : (script : Script) (S : State) → AreRows script S → (o : ObjNo) (k : ℕ) → total (mutex_names o) (slice_index_or S.synchronization.mutexes k []) ≤ 1
-held_le script S rows o k = elim (cases_lt 0 (times_held S.synchronization.mutexes (record { 0 = k }) o)) as (λ _. total (mutex_names o) (slice_index_or S.synchronization.mutexes k []) ≤ 1) [
-  | inl some ↦
-      let own = rows.synchronization.locks.held (record { 0 = k }) o some in
-      let once = rows.synchronization.locks.owned o own.owner own.is in
-      let same : times_held S.synchronization.mutexes own.owner.thread o ≡ total (mutex_names o) (slice_index_or S.synchronization.mutexes k []) = ap (λ (n : ℕ). total (mutex_names o) (slice_index_or S.synchronization.mutexes n [])) own.thread in omega arith
-  | inr none ↦ omega arith
-]
+held_le script S rows o k =
+    elim (cases_lt 0 (times_held S.synchronization.mutexes (record { 0 = k }) o)) as
+    (λ _. total (mutex_names o) (slice_index_or S.synchronization.mutexes k []) ≤ 1) [
+      | inl some ↦
+          let own = rows.synchronization.locks.held (record { 0 = k }) o some in
+          let once = rows.synchronization.locks.owned o own.owner own.is in
+          let same : times_held S.synchronization.mutexes own.owner.thread o
+          ≡ total (mutex_names o) (slice_index_or S.synchronization.mutexes k []) =
+          ap (λ (n : ℕ). total (mutex_names o) (slice_index_or S.synchronization.mutexes n [])) own.thread in
+          omega arith
+      | inr none ↦ omega arith
+    ]
 
 -- the kernel holds a thread once at most
 stage_le : (stage : Stage) → stage_holds stage ≤ 1
@@ -73,21 +78,32 @@ messages_le o (message ∷ rest) = let a = same_le message.row.session o in let 
 -- from a session and 2 from a message
 pub count_small : (script : Script) (S : State) → AreRows script S → (o : ObjNo) → count_of S o < 65536
 count_small script S rows o =
-    let handles : total (total (slot_names o)) S.references.handles ≤ 256 * length S.references.handles = total_at_most (total (slot_names o)) 256 S.references.handles [] (λ k inside.
-    let few : total (slot_names o) (slice_index_or S.references.handles k []) ≤ 1 * length (slice_index_or S.references.handles k []) = total_at_most (slot_names o) 1 (slice_index_or S.references.handles k []) fresh_slot (λ i _. option_le o _) in
+    let handles : total (total (slot_names o)) S.references.handles ≤ 256 * length S.references.handles =
+    total_at_most (total (slot_names o)) 256 S.references.handles [] (λ k inside.
+    let few : total (slot_names o) (slice_index_or S.references.handles k [])
+    ≤ 1 * length (slice_index_or S.references.handles k []) =
+    total_at_most (slot_names o) 1 (slice_index_or S.references.handles k []) fresh_slot (λ i _. option_le o _) in
     let size : length (slice_index_or S.references.handles k []) ≡ 256 = (rows.references.tables k inside).size in
     omega arith) in
-    let threads : total (thread_names o) S.references.threads ≤ 2 * length S.references.threads = total_at_most (thread_names o) 2 S.references.threads None (λ k _. thread_le o _) in
-    let owed : total (total (owed_names o)) S.references.owed ≤ 12 * length S.references.owed = total_at_most (total (owed_names o)) 12 S.references.owed [] (λ k _.
+    let threads : total (thread_names o) S.references.threads ≤ 2 * length S.references.threads =
+    total_at_most (thread_names o) 2 S.references.threads None (λ k _. thread_le o _) in
+    let owed : total (total (owed_names o)) S.references.owed ≤ 12 * length S.references.owed =
+    total_at_most (total (owed_names o)) 12 S.references.owed [] (λ k _.
     let few = duties_le o (slice_index_or S.references.owed k []) in
     let weighs : total weight (slice_index_or S.references.owed k []) ≤ 12 = rows.references.duties.few k in
     omega arith) in
     let kernel : kernel_names S o ≤ 1 = holds_le (thread_of S o) in
-    let mutexes : total (total (mutex_names o)) S.synchronization.mutexes ≤ 1 * length S.synchronization.mutexes = total_at_most (total (mutex_names o)) 1 S.synchronization.mutexes [] (λ k _. held_le script S rows o k) in
-    let owned : total (total (mutex_names o)) S.serving.owned ≤ 1 * length S.serving.owned = total_at_most (total (mutex_names o)) 1 S.serving.owned [] (λ k _. rows.serving.servers.once (record { 0 = k }) o) in
-    let sessions : total (session_names o) S.serving.servers.sessions ≤ 1 * length S.serving.servers.sessions = total_at_most (session_names o) 1 S.serving.servers.sessions None (λ k _. session_le o _) in
+    let mutexes : total (total (mutex_names o)) S.synchronization.mutexes ≤ 1 * length S.synchronization.mutexes =
+    total_at_most (total (mutex_names o)) 1 S.synchronization.mutexes [] (λ k _. held_le script S rows o k) in
+    let owned : total (total (mutex_names o)) S.serving.owned ≤ 1 * length S.serving.owned =
+    total_at_most (total (mutex_names o)) 1 S.serving.owned []
+    (λ k _. rows.serving.servers.once (record { 0 = k }) o) in
+    let sessions : total (session_names o) S.serving.servers.sessions ≤ 1 * length S.serving.servers.sessions =
+    total_at_most (session_names o) 1 S.serving.servers.sessions None (λ k _. session_le o _) in
     let messages = messages_le o S.serving.messages.outstanding in
-    let few = messages_few (IsUntold S.synchronization.requests S.synchronization.logons) (λ u s untold. untold.0.status) S.references.threads S.serving.servers S.serving.messages rows.serving.messages rows.serving.servers.sessions_sized in
+    let few = messages_few (IsUntold S.synchronization.requests S.synchronization.logons)
+    (λ u s untold. untold.0.status) S.references.threads S.serving.servers S.serving.messages rows.serving.messages
+    rows.serving.servers.sessions_sized in
     let sessions_sized = rows.serving.servers.sessions_sized in
     let owned_sized = rows.serving.servers.owned_sized in
     let held = rows.synchronization.locks.mutexes_sized in

@@ -87,7 +87,8 @@ tell_few t [] S = omega arith
 tell_few t (m ∷ ms) S =
     let first = told_few m S in
     let rest = tell_few t ms (moved t m S) in
-    let e : length (told m S ++ tell t ms (moved t m S)) ≡ length (told m S) + length (tell t ms (moved t m S)) = length-append (told m S) (tell t ms (moved t m S)) in
+    let e : length (told m S ++ tell t ms (moved t m S)) ≡ length (told m S) + length (tell t ms (moved t m S)) =
+    length-append (told m S) (tell t ms (moved t m S)) in
     omega arith
 
 -- a move in the rows of threads that synchronize, of requests, or of mutexes and semaphores tells so many effects at most, whichever it is, and a

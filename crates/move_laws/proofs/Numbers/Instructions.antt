@@ -7,7 +7,8 @@ use Rattle.state_rows.specs.declared.thread.Role.{Role}
 use Rattle.state_rows.specs.declared.thread.Role.TheVariants.{Supervisor, Queue, Declared}
 use Rattle.machine.specs.Task.{declared_of, instructions_in, instructions_of}
 
-few_in : (script : Script) → IsShaped script → (role : Role) (declared : Option ThreadDecl) → declared_of script role ≡ declared → length (instructions_in declared) ≤ 16384
+few_in : (script : Script) → IsShaped script → (role : Role) (declared : Option ThreadDecl)
+    → declared_of script role ≡ declared → length (instructions_in declared) ≤ 16384
 few_in script shaped role None at = omega arith
 few_in script shaped Supervisor (Some declared) at = absurd (cc)
 few_in script shaped (Queue queue) (Some declared) at = absurd (cc)

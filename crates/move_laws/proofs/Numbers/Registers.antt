@@ -19,7 +19,9 @@ use Rattle.machine.specs.Task.{instruction}
 use Rattle.machine.proofs.Instructions.{each_test, of_instruction}
 
 -- a test that each instruction of a script passes
-of_test : (script : Script) (test : Instr → Bool) → list_all (λ (t : ThreadDecl). list_all test t.instrs) script.threads ≡ true → (row : ThreadRow) (instr : Instr) → instruction script row ≡ Some instr → test instr ≡ true
+of_test : (script : Script) (test : Instr → Bool)
+    → list_all (λ (t : ThreadDecl). list_all test t.instrs) script.threads ≡ true → (row : ThreadRow) (instr : Instr)
+    → instruction script row ≡ Some instr → test instr ≡ true
 of_test script test all row instr there = of_instruction script (λ what. test what ≡ true) (each_test script test all) row instr there
 
 -- the registers that it names are there
@@ -31,7 +33,8 @@ pub has_names : (script : Script) (row : ThreadRow) (instr : Instr) → IsShaped
 has_names script row instr shaped there = of_test script (instr_resolves script) shaped.names.instrs row instr there
 
 -- its numbers are in their ranges
-pub has_ranges : (script : Script) (row : ThreadRow) (instr : Instr) → IsShaped script → instruction script row ≡ Some instr → is_source_line (line.Instr instr) ≡ true
+pub has_ranges : (script : Script) (row : ThreadRow) (instr : Instr) → IsShaped script
+    → instruction script row ≡ Some instr → is_source_line (line.Instr instr) ≡ true
 has_ranges script row instr shaped there = of_test script (λ what. is_source_line (line.Instr what)) shaped.numbers.instrs row instr there
 
 -- a priority is at most 63

@@ -11,11 +11,14 @@ use Rattle.machine.specs.Choice.{first_ready, priority_of}
 here : (x t : ObjNo) (rest : List ObjNo) → x ≡ t → ((x.0 == t.0) || is_listed rest t) ≡ true
 here x t rest same = or_left (x.0 == t.0) (is_listed rest t) (eq-eqb x.0 t.0 (ap (λ (y : ObjNo). y.0) same))
 
-chosen_step : (x y t : ObjNo) (rest : List ObjNo) (b : Bool) → (if b then Some y else Some x) ≡ Some t → (y ≡ t → is_listed rest t ≡ true) → ((x.0 == t.0) || is_listed rest t) ≡ true
+chosen_step : (x y t : ObjNo) (rest : List ObjNo) (b : Bool) → (if b then Some y else Some x) ≡ Some t
+    → (y ≡ t → is_listed rest t ≡ true) → ((x.0 == t.0) || is_listed rest t) ≡ true
 chosen_step x y t rest true e there = or_right (x.0 == t.0) (is_listed rest t) (there (cc))
 chosen_step x y t rest false e there = here x t rest (cc)
 
-chosen_listed : (weight : ObjNo → ℕ) (x t : ObjNo) (rest : List ObjNo) (found : Option ObjNo) → unless_greater weight x found ≡ Some t → (found ≡ Some t → is_listed rest t ≡ true) → ((x.0 == t.0) || is_listed rest t) ≡ true
+chosen_listed : (weight : ObjNo → ℕ) (x t : ObjNo) (rest : List ObjNo) (found : Option ObjNo)
+    → unless_greater weight x found ≡ Some t → (found ≡ Some t → is_listed rest t ≡ true)
+    → ((x.0 == t.0) || is_listed rest t) ≡ true
 chosen_listed weight x t rest None e there = here x t rest (cc)
 chosen_listed weight x t rest (Some y) e there = chosen_step x y t rest (nat_lt (weight x) (weight y)) e (λ same. there (ap Some same))
 

@@ -25,7 +25,8 @@ use Rattle.machine.specs.WellFormed.{AreRows}
 use Rattle.move_laws.proofs.Readiness.HasTask.{has_task, task_is}
 
 -- a live thread that serves no queue has a task
-live_has_task : (script : Script) (calls : DeferredRows) (first : Option Owed) (row : ThreadRow) → row.stage ≡ Live → served_queue row.role ≡ None → has_task script calls first (Some row) ≡ true
+live_has_task : (script : Script) (calls : DeferredRows) (first : Option Owed) (row : ThreadRow) → row.stage ≡ Live
+    → served_queue row.role ≡ None → has_task script calls first (Some row) ≡ true
 live_has_task script calls first row live serves = by (is_returning row.part) (instruction script row) first row.stage live
   where
     own : (role : Role) (call : Option ℕ) → served_queue role ≡ None → is_some (live_task role call End) ≡ true
@@ -37,7 +38,9 @@ live_has_task script calls first row live serves = by (is_returning row.part) (i
     at_stage Live is = own row.role (next_call calls row.role) serves
     at_stage _ is = absurd (cc)
 
-    by : (returns : Bool) (at : Option Instr) (first : Option Owed) (stage : Stage) → stage ≡ Live → is_some (return_or returns at (pay_or first (by_stage stage [] (live_task row.role (next_call calls row.role) End)))) ≡ true
+    by : (returns : Bool) (at : Option Instr) (first : Option Owed) (stage : Stage) → stage ≡ Live
+        → is_some (return_or returns at (pay_or first
+        (by_stage stage [] (live_task row.role (next_call calls row.role) End)))) ≡ true
     by true (Some instr) first stage is = refl
     by true None (Some what) stage is = refl
     by true None None stage is = at_stage stage is
@@ -59,14 +62,22 @@ goes_on shared row waits going = rw waits (rw going (and_false shared))
     and_false false = refl
 
 -- the holder of a fast mutex waits for nothing and isn't out, is protected from being stopped, and has a task
-pub holder_ready : (script : Script) (S : State) (f : ℕ) (u : ObjNo) → AreRows script S → holder_of S.synchronization.nano f ≡ Some u → is_ready script S u ≡ true
+pub holder_ready : (script : Script) (S : State) (f : ℕ) (u : ObjNo) → AreRows script S
+    → holder_of S.synchronization.nano f ≡ Some u → is_ready script S u ≡ true
 holder_ready script S f u rows is =
     let held = rows.synchronization.nano.holders f u is in
-    let protected : is_protected S.synchronization.nano u ≡ true = or_left (is_some (held_by S.synchronization.nano u)) (not (critical_count S.synchronization.nano u == 0)) (holds_some S.synchronization.nano f u is) in
+    let protected : is_protected S.synchronization.nano u
+    ≡ true = or_left (is_some (held_by S.synchronization.nano u)) (not (critical_count S.synchronization.nano u == 0))
+    (holds_some S.synchronization.nano f u is) in
     let waits : is_waiting S u ≡ false = ap (is_waiting_row S.mode.shared) held.is ∙ goes_on S.mode.shared held.row held.waits held.going in
-    let stopped : is_stopped S u ≡ false = and_right (not (suspend_count S.synchronization.nano u == 0)) (not (is_protected S.synchronization.nano u)) (not_from_true (is_protected S.synchronization.nano u) protected) in
-    let task : is_some (task_of script S u) ≡ true = task_is script S u (thread_of S u) ∙ ap (has_task script S.synchronization.deferred (first_owed S u)) held.is ∙ live_has_task script S.synchronization.deferred (first_owed S u) held.row held.live held.serves in
-    and_from (not (is_waiting S u) && not (is_stopped S u)) (is_some (task_of script S u)) (and_from (not (is_waiting S u)) (not (is_stopped S u)) (not_from_false (is_waiting S u) waits) (not_from_false (is_stopped S u) stopped)) task
+    let stopped : is_stopped S u ≡ false = and_right (not (suspend_count S.synchronization.nano u == 0))
+    (not (is_protected S.synchronization.nano u)) (not_from_true (is_protected S.synchronization.nano u) protected) in
+    let task : is_some (task_of script S u) ≡ true = task_is script S u (thread_of S u)
+    ∙ ap (has_task script S.synchronization.deferred (first_owed S u)) held.is
+    ∙ live_has_task script S.synchronization.deferred (first_owed S u) held.row held.live held.serves in
+    and_from (not (is_waiting S u) && not (is_stopped S u)) (is_some (task_of script S u))
+    (and_from (not (is_waiting S u)) (not (is_stopped S u)) (not_from_false (is_waiting S u) waits)
+    (not_from_false (is_stopped S u) stopped)) task
 
 -- a thread that is wanted to give a fast mutex up holds one
 holds_wanted : (r : NanoRows) (want : Option ℕ) (u : ObjNo) → option_and_then (holder_of r) want ≡ Some u → (f : ℕ) × (holder_of r f ≡ Some u)
@@ -74,7 +85,8 @@ holds_wanted r None u e = absurd (cc)
 holds_wanted r (Some f) u e = (f, e)
 
 -- whoever acts in the place of a thread that is ready is able
-pub place_able : (script : Script) (S : State) (t : ObjNo) → AreRows script S → is_ready script S t ≡ true → is_able script S (in_place_of S.synchronization.nano t) ≡ true
+pub place_able : (script : Script) (S : State) (t : ObjNo) → AreRows script S → is_ready script S t ≡ true
+    → is_able script S (in_place_of S.synchronization.nano t) ≡ true
 place_able script S t rows ready = by (wanted_holder S.synchronization.nano t) refl
   where
     by : (holder : Option ObjNo) → wanted_holder S.synchronization.nano t ≡ holder → is_able script S (or_self t holder) ≡ true
@@ -82,5 +94,6 @@ place_able script S t rows ready = by (wanted_holder S.synchronization.nano t) r
     by (Some u) e =
         let holds = holds_wanted S.synchronization.nano (want_of S.synchronization.nano t) u e in
         let held = rows.synchronization.nano.holders holds.0 u holds.1 in
-        let wants : is_none (wanted_holder S.synchronization.nano u) ≡ true = ap (λ (want : Option ℕ). is_none (option_and_then (holder_of S.synchronization.nano) want)) held.wants in
+        let wants : is_none (wanted_holder S.synchronization.nano u) ≡ true =
+        ap (λ (want : Option ℕ). is_none (option_and_then (holder_of S.synchronization.nano) want)) held.wants in
         and_from (is_ready script S u) (is_none (wanted_holder S.synchronization.nano u)) (holder_ready script S holds.0 u rows holds.1) wants

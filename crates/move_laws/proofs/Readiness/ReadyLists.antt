@@ -7,7 +7,9 @@ use Rattle.machine.specs.Arrivals.{is_listed}
 use Rattle.machine.specs.WellFormed.{AreApart}
 use Rattle.move_laws.proofs.References.Same.{same_object}
 
-filter_step : (p : ObjNo → Bool) (q u : ObjNo) (rest kept : List ObjNo) (here pq pu : Bool) → (q.0 == u.0) ≡ here → p q ≡ pq → p u ≡ pu → is_listed kept u ≡ (is_listed rest u && pu) → is_listed (if pq then q ∷ kept else kept) u ≡ ((here || is_listed rest u) && pu)
+filter_step : (p : ObjNo → Bool) (q u : ObjNo) (rest kept : List ObjNo) (here pq pu : Bool) → (q.0 == u.0) ≡ here
+    → p q ≡ pq → p u ≡ pu → is_listed kept u ≡ (is_listed rest u && pu)
+    → is_listed (if pq then q ∷ kept else kept) u ≡ ((here || is_listed rest u) && pu)
 filter_step p q u rest kept true true true e f g h = or_left (q.0 == u.0) (is_listed kept u) e
 filter_step p q u rest kept true false false e f g h = h ∙ and_right (is_listed rest u) false refl
 filter_step p q u rest kept true true false e f g h = let same : p q ≡ p u = ap p (same_object q u (eqb-true q.0 u.0 e)) in absurd (cc)
@@ -20,7 +22,8 @@ pub listed-filter : (p : ObjNo → Bool) (qs : List ObjNo) (u : ObjNo) → is_li
 listed-filter p [] u = refl
 listed-filter p (q ∷ qs) u = filter_step p q u qs (filter p qs) (q.0 == u.0) (p q) (p u) refl refl refl (listed-filter p qs u)
 
-push_step : (q x u : ObjNo) (qs : List ObjNo) (here : Bool) → (q.0 == u.0) ≡ here → (here || is_listed qs u) ≡ true → (is_listed qs u ≡ true → is_listed (qs ++ x ∷ []) u ≡ true) → ((q.0 == u.0) || is_listed (qs ++ x ∷ []) u) ≡ true
+push_step : (q x u : ObjNo) (qs : List ObjNo) (here : Bool) → (q.0 == u.0) ≡ here → (here || is_listed qs u) ≡ true
+    → (is_listed qs u ≡ true → is_listed (qs ++ x ∷ []) u ≡ true) → ((q.0 == u.0) || is_listed (qs ++ x ∷ []) u) ≡ true
 push_step q x u qs true e h rest = or_left (q.0 == u.0) (is_listed (qs ++ x ∷ []) u) e
 push_step q x u qs false e h rest = or_right (q.0 == u.0) (is_listed (qs ++ x ∷ []) u) (rest h)
 

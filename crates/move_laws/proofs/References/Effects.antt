@@ -34,7 +34,8 @@ finds-append (Seek x ∷ rest) ys o = let r = finds-append rest ys o in omega ar
 finds-append (_ ∷ rest) ys o = finds-append rest ys o
 
 -- effects that fit, and others that fit after them
-pub fits-append : (held : Holder → ObjNo → ℕ) (xs ys : List Effect) → EachFitsHolders held xs → EachFitsHolders (held_after_all held xs) ys → EachFitsHolders held (xs ++ ys)
+pub fits-append : (held : Holder → ObjNo → ℕ) (xs ys : List Effect) → EachFitsHolders held xs
+    → EachFitsHolders (held_after_all held xs) ys → EachFitsHolders held (xs ++ ys)
 fits-append held [] ys h k = k
 fits-append held (x ∷ xs) ys h k = (h.0, fits-append (held_after held x) xs ys h.1 k)
 
@@ -43,20 +44,29 @@ fits_same_one held other (Plus h o) same h1 = let a = same h o in omega arith
 fits_same_one held other (Minus h o) same h1 = let a = same h o in omega arith
 fits_same_one held other _ same h1 = tt
 
-pub after_same_one : (held other : Holder → ObjNo → ℕ) (e : Effect) → ((g : Holder) (x : ObjNo) → held g x ≡ other g x) → (g : Holder) (x : ObjNo) → held_after held e g x ≡ held_after other e g x
+pub after_same_one : (held other : Holder → ObjNo → ℕ) (e : Effect) → ((g : Holder) (x : ObjNo) → held g x ≡ other g x)
+    → (g : Holder) (x : ObjNo) → held_after held e g x ≡ held_after other e g x
 after_same_one held other (Plus h o) same g x = let a = same g x in omega arith
 after_same_one held other (Minus h o) same g x = let a = same g x in omega arith
 after_same_one held other _ same g x = same g x
 
 -- whoever holds the same, the same effects fit
-pub fits-same : (held other : Holder → ObjNo → ℕ) (es : List Effect) → ((g : Holder) (x : ObjNo) → held g x ≡ other g x) → EachFitsHolders held es → EachFitsHolders other es
+pub fits-same : (held other : Holder → ObjNo → ℕ) (es : List Effect) → ((g : Holder) (x : ObjNo) → held g x ≡ other g x)
+    → EachFitsHolders held es → EachFitsHolders other es
 fits-same held other [] same h = tt
-fits-same held other (e ∷ es) same h = (fits_same_one held other e same h.0, fits-same (held_after held e) (held_after other e) es (after_same_one held other e same) h.1)
+fits-same held other (e ∷ es) same h = (
+  fits_same_one held other e same h.0,
+  fits-same (held_after held e) (held_after other e) es
+      (after_same_one held other e same) h.1,
+)
 
-pub after_all-append : (held : Holder → ObjNo → ℕ) (xs ys : List Effect) (g : Holder) (x : ObjNo) → held_after_all held (xs ++ ys) g x ≡ held_after_all (held_after_all held xs) ys g x
+pub after_all-append : (held : Holder → ObjNo → ℕ) (xs ys : List Effect) (g : Holder) (x : ObjNo)
+    → held_after_all held (xs ++ ys) g x ≡ held_after_all (held_after_all held xs) ys g x
 after_all-append held [] ys g x = refl
 after_all-append held (e ∷ es) ys g x = after_all-append (held_after held e) es ys g x
 
-pub after_all-same : (held other : Holder → ObjNo → ℕ) (es : List Effect) → ((g : Holder) (x : ObjNo) → held g x ≡ other g x) → (g : Holder) (x : ObjNo) → held_after_all held es g x ≡ held_after_all other es g x
+pub after_all-same : (held other : Holder → ObjNo → ℕ) (es : List Effect)
+    → ((g : Holder) (x : ObjNo) → held g x ≡ other g x) → (g : Holder) (x : ObjNo)
+    → held_after_all held es g x ≡ held_after_all other es g x
 after_all-same held other [] same g x = same g x
 after_all-same held other (e ∷ es) same g x = after_all-same (held_after held e) (held_after other e) es (after_same_one held other e same) g x

@@ -15,18 +15,21 @@ use Rattle.machine.specs.Fits.{FitsDeferred}
 use Rattle.machine.specs.WellFormed.{AreCalls}
 
 -- other items in the immediate queue
-calls-immediate : (script : Script) (r : DeferredRows) (items : List Item) → AllByRecursion (IsKnown r) items → AreCalls script r → AreCalls script (record r { immediate = items })
+calls-immediate : (script : Script) (r : DeferredRows) (items : List Item) → AllByRecursion (IsKnown r) items
+    → AreCalls script r → AreCalls script (record r { immediate = items })
 calls-immediate script r items known h = record { idfcs = h.idfcs; places = h.places; queues = h.queues; known = known }
 
 -- other calls in as many queues
-calls-queues : (script : Script) (r : DeferredRows) (queues : List (List ℕ)) → length queues ≡ length r.queues → AreCalls script r → AreCalls script (record r { queues = queues })
+calls-queues : (script : Script) (r : DeferredRows) (queues : List (List ℕ)) → length queues ≡ length r.queues
+    → AreCalls script r → AreCalls script (record r { queues = queues })
 calls-queues script r queues long h = record { idfcs = h.idfcs; places = h.places; queues = long ∙ h.queues; known = h.known }
 
 all-push : {A : Type 0} (P : A → Type 0) (xs : List A) (x : A) → P x → AllByRecursion P xs → AllByRecursion P (xs ++ x ∷ [])
 all-push P [] x p all = (p, tt)
 all-push P (y ∷ ys) x p all = (all.0, all-push P ys x p all.1)
 
-all-if_push : {A : Type 0} (P : A → Type 0) (queued : Bool) (xs : List A) (x : A) → P x → AllByRecursion P xs → AllByRecursion P (if queued then xs else xs ++ x ∷ [])
+all-if_push : {A : Type 0} (P : A → Type 0) (queued : Bool) (xs : List A) (x : A) → P x → AllByRecursion P xs
+    → AllByRecursion P (if queued then xs else xs ++ x ∷ [])
 all-if_push P true xs x p all = all
 all-if_push P false xs x p all = all-push P xs x p all
 
@@ -40,8 +43,12 @@ length-if_set false xs i x = length-set xs i x
 
 -- a move that fits keeps them
 pub calls-moved : (script : Script) (m : DeferredMove) (r : DeferredRows) → FitsDeferred m r → AreCalls script r → AreCalls script (deferred_moved m r)
-calls-moved script (AddImmediate call) r fits h = calls-immediate script r _ (all-if_push (IsKnown r) (is_queued r (item.Idfc call)) r.immediate (item.Idfc call) fits h.known) h
-calls-moved script (AddFromInterrupt dfc) r fits h = calls-immediate script r _ (all-if_push (IsKnown r) (is_queued r (item.Move dfc)) r.immediate (item.Move dfc) fits h.known) h
+calls-moved script (AddImmediate call) r fits h =
+    calls-immediate script r _ (all-if_push (IsKnown r) (is_queued r (item.Idfc call)) r.immediate
+    (item.Idfc call) fits h.known) h
+calls-moved script (AddFromInterrupt dfc) r fits h =
+    calls-immediate script r _ (all-if_push (IsKnown r) (is_queued r (item.Move dfc)) r.immediate
+    (item.Move dfc) fits h.known) h
 calls-moved script (Add dfc queue) r fits h = calls-queues script r _ (length-if_set (is_queued r (item.Move dfc)) r.queues _ _) h
 calls-moved script TakeImmediate r fits h = calls-immediate script r _ (all-drop (IsKnown r) r.immediate h.known) h
 calls-moved script (Take queue) r fits h = calls-queues script r _ (length-set r.queues queue _) h

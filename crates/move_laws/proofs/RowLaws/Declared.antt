@@ -37,7 +37,10 @@ dfc_inside script r name dfc h is =
 
 -- an immediate one
 pub idfc_inside : (script : Script) (r : DeferredRows) (name : List ℕ) (call : ℕ) → AreCalls script r → idfc_named script name ≡ Some call → call < r.idfcs
-idfc_inside script r name call h is = let within = position_inside (λ (d : IdfcDecl). bytes_eq name d.name) script.idfcs call is in let long = h.idfcs in omega arith
+idfc_inside script r name call h is =
+    let within = position_inside (λ (d : IdfcDecl). bytes_eq name d.name) script.idfcs call is in
+    let long = h.idfcs in
+    omega arith
 
 -- the burial of a thread
 pub burial_inside : (script : Script) (r : DeferredRows) (role : Role) → AreCalls script r → IsRole script role → burial_of script role < length r.places
@@ -70,21 +73,32 @@ number_below : (found : Option ℕ) (n : ℕ) → ((k : ℕ) → found ≡ Some 
 number_below None n inside = omega arith
 number_below (Some k) n inside = let below = inside k refl in omega arith
 
-queue_below : (places : List DfcPlace) (dfc n : ℕ) → 0 < n → AllByRecursion (λ (place : DfcPlace). place.queue < n) places → get_or (map (λ (place : DfcPlace). place.queue) places) dfc 0 < n
+queue_below : (places : List DfcPlace) (dfc n : ℕ) → 0 < n
+    → AllByRecursion (λ (place : DfcPlace). place.queue < n) places
+    → get_or (map (λ (place : DfcPlace). place.queue) places) dfc 0 < n
 queue_below [] dfc n some all = some
 queue_below (place ∷ places) zero n some all = all.0
 queue_below (place ∷ places) (suc dfc) n some all = queue_below places dfc n some all.1
 
 -- the queue of each deferred function call is there
 pub queue_inside : (script : Script) (r : DeferredRows) (dfc : ℕ) → AreCalls script r → queue_of r dfc < length r.queues
-queue_inside script r dfc h = let long = h.queues in let below = queue_below r.places dfc (1 + length script.queues) (omega arith) (subst (AllByRecursion Inside) (sym h.places) all) in omega arith
+queue_inside script r dfc h =
+    let long = h.queues in
+    let below = queue_below r.places dfc (1 + length script.queues) (omega arith)
+    (subst (AllByRecursion Inside) (sym h.places) all) in
+    omega arith
   where
     Inside : DfcPlace → Type 0
     Inside place = place.queue < 1 + length script.queues
 
     all : AllByRecursion Inside (places_of (map (place_of script) script.dfcs) (1 + length script.queues + length script.threads))
-    all = all-both Inside (map (place_of script) script.dfcs) (replicate (64 + (1 + length script.queues + length script.threads) - length (map (place_of script) script.dfcs)) burial)
-        (all-map Inside (place_of script) script.dfcs (λ d. number_below (position (λ (q : QueueDecl). bytes_eq d.queue q.name) script.queues) (length script.queues) (λ k. position_inside (λ (q : QueueDecl). bytes_eq d.queue q.name) script.queues k)))
+    all =
+        all-both Inside (map (place_of script) script.dfcs)
+        (replicate (64 + (1 + length script.queues + length script.threads) - length (map (place_of script) script.dfcs))
+        burial)
+        (all-map Inside (place_of script) script.dfcs
+        (λ d. number_below (position (λ (q : QueueDecl). bytes_eq d.queue q.name) script.queues) (length script.queues)
+        (λ k. position_inside (λ (q : QueueDecl). bytes_eq d.queue q.name) script.queues k)))
         (all-replicate Inside _ burial (omega arith))
 
 -- what comes first of what all pass passes

@@ -27,12 +27,16 @@ pub record IsPaidIn (threads other : List (Option ThreadRow)) (k : ℕ) : Type 0
   pub none : (j : ℕ) → get_or threads j None ≡ None → get_or other j None ≡ None
   pub going : is_returning (part_of (get_or threads k None)) ≡ false → is_returning (part_of (get_or other k None)) ≡ false
 
-part_going : (f : ThreadRow → ThreadRow) (x : Option ThreadRow) → ((row : ThreadRow) → is_returning row.part ≡ false → is_returning (f row).part ≡ false) → is_returning (part_of x) ≡ false → is_returning (part_of (option_map f x)) ≡ false
+part_going : (f : ThreadRow → ThreadRow) (x : Option ThreadRow)
+    → ((row : ThreadRow) → is_returning row.part ≡ false → is_returning (f row).part ≡ false)
+    → is_returning (part_of x) ≡ false → is_returning (part_of (option_map f x)) ≡ false
 part_going f None keeps h = h
 part_going f (Some row) keeps h = keeps row h
 
 -- a change of a row that begins no return
-pub paid-with_row : (threads : List (Option ThreadRow)) (t : ObjNo) (f : ThreadRow → ThreadRow) → ((row : ThreadRow) → is_returning row.part ≡ false → is_returning (f row).part ≡ false) → (k : ℕ) → IsPaidIn threads (with_row threads t f) k
+pub paid-with_row : (threads : List (Option ThreadRow)) (t : ObjNo) (f : ThreadRow → ThreadRow)
+    → ((row : ThreadRow) → is_returning row.part ≡ false → is_returning (f row).part ≡ false) → (k : ℕ)
+    → IsPaidIn threads (with_row threads t f) k
 paid-with_row threads t f keeps k = record {
   long = length-with_row threads t f;
   none = none-with_row threads t f;
@@ -44,7 +48,8 @@ paid-with_row threads t f keeps k = record {
   ];
 }
 
-may_owe-kept : (threads other : List (Option ThreadRow)) (r : ServerRows) (accepted k : ℕ) (h : Holder) (o : ObjNo) → IsPaidIn threads other k → MayOwe threads r accepted k h o → MayOwe other r accepted k h o
+may_owe-kept : (threads other : List (Option ThreadRow)) (r : ServerRows) (accepted k : ℕ) (h : Holder) (o : ObjNo)
+    → IsPaidIn threads other k → MayOwe threads r accepted k h o → MayOwe other r accepted k h o
 may_owe-kept threads other r accepted k (Temp u) o stays own = own
 may_owe-kept threads other r accepted k (Own u) o stays own = own
 may_owe-kept threads other r accepted k (Link x) o stays own = ((stays.none o.0 own.0.0, own.0.1), λ past. own.1 (let a = stays.long in omega arith))
@@ -52,13 +57,19 @@ may_owe-kept threads other r accepted k (Message m) o stays own = own
 may_owe-kept threads other r accepted k Kernel o stays own = tt
 may_owe-kept threads other r accepted k _ o stays own = absurd own
 
-each_may_owe-kept : (threads other : List (Option ThreadRow)) (r : ServerRows) (accepted k : ℕ) (what : List Owed) → IsPaidIn threads other k → EachMayOwe threads r accepted k what → EachMayOwe other r accepted k what
+each_may_owe-kept : (threads other : List (Option ThreadRow)) (r : ServerRows) (accepted k : ℕ) (what : List Owed)
+    → IsPaidIn threads other k → EachMayOwe threads r accepted k what → EachMayOwe other r accepted k what
 each_may_owe-kept threads other r accepted k [] stays own = tt
-each_may_owe-kept threads other r accepted k (Close h o ∷ rest) stays own = (may_owe-kept threads other r accepted k h o stays own.0, each_may_owe-kept threads other r accepted k rest stays own.1)
+each_may_owe-kept threads other r accepted k (Close h o ∷ rest) stays own = (
+  may_owe-kept threads other r accepted k h o stays own.0,
+  each_may_owe-kept threads other r accepted k rest stays own.1,
+)
 each_may_owe-kept threads other r accepted k (Sweep o ∷ rest) stays own = each_may_owe-kept threads other r accepted k rest stays own
 
 -- a thread that owes nothing may owe that
-pub duties-threads : (threads other : List (Option ThreadRow)) (r : ServerRows) (accepted : ℕ) (owed : List (List Owed)) → ((k : ℕ) → (get_or owed k [] ≡ []) ⊎ IsPaidIn threads other k) → AreDuties threads r accepted owed → AreDuties other r accepted owed
+pub duties-threads : (threads other : List (Option ThreadRow)) (r : ServerRows) (accepted : ℕ) (owed : List (List Owed))
+    → ((k : ℕ) → (get_or owed k [] ≡ []) ⊎ IsPaidIn threads other k) → AreDuties threads r accepted owed
+    → AreDuties other r accepted owed
 duties-threads threads other r accepted owed stays h = record {
   own = λ k. elim (stays k) as (λ _. EachMayOwe other r accepted k (get_or owed k [])) [
     | inl nothing ↦ subst (EachMayOwe other r accepted k) (sym nothing) tt
@@ -74,13 +85,19 @@ duties-threads threads other r accepted owed stays h = record {
   ];
 }
 
-may_owe-append : (threads : List (Option ThreadRow)) (r : ServerRows) (accepted k : ℕ) (xs ys : List Owed) → EachMayOwe threads r accepted k xs → EachMayOwe threads r accepted k ys → EachMayOwe threads r accepted k (xs ++ ys)
+may_owe-append : (threads : List (Option ThreadRow)) (r : ServerRows) (accepted k : ℕ) (xs ys : List Owed)
+    → EachMayOwe threads r accepted k xs → EachMayOwe threads r accepted k ys
+    → EachMayOwe threads r accepted k (xs ++ ys)
 may_owe-append threads r accepted k [] ys h g = g
 may_owe-append threads r accepted k (Close j o ∷ rest) ys h g = (h.0, may_owe-append threads r accepted k rest ys h.1 g)
 may_owe-append threads r accepted k (Sweep o ∷ rest) ys h g = may_owe-append threads r accepted k rest ys h g
 
 -- what one thread owes changes
-duties-set : (threads : List (Option ThreadRow)) (r : ServerRows) (accepted : ℕ) (owed : List (List Owed)) (t : ObjNo) (what : List Owed) → EachMayOwe threads r accepted t.0 what → total weight what ≤ 12 → (is_returning (part_of (get_or threads t.0 None)) ≡ true → what ≡ []) → AreDuties threads r accepted owed → AreDuties threads r accepted (slice_set owed t.0 what)
+duties-set : (threads : List (Option ThreadRow)) (r : ServerRows) (accepted : ℕ) (owed : List (List Owed)) (t : ObjNo)
+    (what : List Owed)
+    → EachMayOwe threads r accepted t.0 what → total weight what ≤ 12
+    → (is_returning (part_of (get_or threads t.0 None)) ≡ true → what ≡ []) → AreDuties threads r accepted owed
+    → AreDuties threads r accepted (slice_set owed t.0 what)
 duties-set threads r accepted owed t what own few paid h = record {
   own = λ k. elim (set_either owed t.0 what k []) as (λ _. EachMayOwe threads r accepted k (get_or (slice_set owed t.0 what) k [])) [
     | inl at ↦ subst (EachMayOwe threads r accepted k) (sym at.1) (subst (λ (n : ℕ). EachMayOwe threads r accepted n what) (sym at.0) own)
@@ -96,33 +113,49 @@ duties-set threads r accepted owed t what own few paid h = record {
   ];
 }
 
-pub duties-owing : (threads : List (Option ThreadRow)) (r : ServerRows) (accepted : ℕ) (owed : List (List Owed)) (t : ObjNo) (more : List Owed) → EachMayOwe threads r accepted t.0 more → total weight (get_or owed t.0 []) + total weight more ≤ 12 → is_returning (part_of (get_or threads t.0 None)) ≡ false → AreDuties threads r accepted owed → AreDuties threads r accepted (owing owed t more)
+pub duties-owing : (threads : List (Option ThreadRow)) (r : ServerRows) (accepted : ℕ) (owed : List (List Owed))
+    (t : ObjNo) (more : List Owed)
+    → EachMayOwe threads r accepted t.0 more → total weight (get_or owed t.0 []) + total weight more ≤ 12
+    → is_returning (part_of (get_or threads t.0 None)) ≡ false → AreDuties threads r accepted owed
+    → AreDuties threads r accepted (owing owed t more)
 duties-owing threads r accepted owed t more own few going h =
     let both = total-append weight (get_or owed t.0 []) more in
-    duties-set threads r accepted owed t (get_or owed t.0 [] ++ more) (may_owe-append threads r accepted t.0 (get_or owed t.0 []) more (h.own t.0) own) (omega arith) (λ now. cc) h
+    duties-set threads r accepted owed t (get_or owed t.0 [] ++ more)
+    (may_owe-append threads r accepted t.0 (get_or owed t.0 []) more (h.own t.0) own) (omega arith) (λ now. cc) h
 
-may_owe-drop : (threads : List (Option ThreadRow)) (r : ServerRows) (accepted k : ℕ) (what : List Owed) → EachMayOwe threads r accepted k what → EachMayOwe threads r accepted k (drop 1 what)
+may_owe-drop : (threads : List (Option ThreadRow)) (r : ServerRows) (accepted k : ℕ) (what : List Owed)
+    → EachMayOwe threads r accepted k what → EachMayOwe threads r accepted k (drop 1 what)
 may_owe-drop threads r accepted k [] h = tt
 may_owe-drop threads r accepted k (Close j o ∷ rest) h = h.1
 may_owe-drop threads r accepted k (Sweep o ∷ rest) h = h
 
-pub duties-without_first : (threads : List (Option ThreadRow)) (r : ServerRows) (accepted : ℕ) (owed : List (List Owed)) (t : ObjNo) → AreDuties threads r accepted owed → AreDuties threads r accepted (without_first owed t)
+pub duties-without_first : (threads : List (Option ThreadRow)) (r : ServerRows) (accepted : ℕ) (owed : List (List Owed))
+    (t : ObjNo)
+    → AreDuties threads r accepted owed → AreDuties threads r accepted (without_first owed t)
 duties-without_first threads r accepted owed t h =
     let less = total-drop weight (get_or owed t.0 []) in
     let few = h.few t.0 in
-    duties-set threads r accepted owed t (drop 1 (get_or owed t.0 [])) (may_owe-drop threads r accepted t.0 (get_or owed t.0 []) (h.own t.0)) (omega arith) (λ now. ap (drop 1) (h.returns t.0 now)) h
+    duties-set threads r accepted owed t (drop 1 (get_or owed t.0 []))
+    (may_owe-drop threads r accepted t.0 (get_or owed t.0 []) (h.own t.0)) (omega arith)
+    (λ now. ap (drop 1) (h.returns t.0 now)) h
 
 -- what a thread owes after it owes more weighs what both weigh
-pub weight-owing : (owed : List (List Owed)) (t : ObjNo) (more : List Owed) → total weight (get_or (owing owed t more) t.0 []) ≤ total weight (get_or owed t.0 []) + total weight more
-weight-owing owed t more = elim (set_either owed t.0 (get_or owed t.0 [] ++ more) t.0 []) as (λ _. total weight (get_or (owing owed t more) t.0 []) ≤ total weight (get_or owed t.0 []) + total weight more) [
-  | inl at ↦ let a = ap (total weight) at.1 in let b = total-append weight (get_or owed t.0 []) more in omega arith
-  | inr e ↦ let a = ap (total weight) e in omega arith
-]
+pub weight-owing : (owed : List (List Owed)) (t : ObjNo) (more : List Owed)
+    → total weight (get_or (owing owed t more) t.0 []) ≤ total weight (get_or owed t.0 []) + total weight more
+weight-owing owed t more =
+    elim (set_either owed t.0 (get_or owed t.0 [] ++ more) t.0 []) as
+    (λ _. total weight (get_or (owing owed t more) t.0 []) ≤ total weight (get_or owed t.0 []) + total weight more) [
+      | inl at ↦ let a = ap (total weight) at.1 in let b = total-append weight (get_or owed t.0 []) more in omega arith
+      | inr e ↦ let a = ap (total weight) e in omega arith
+    ]
 
-pair_apart : (threads : List (Option ThreadRow)) (r : ServerRows) (accepted k : ℕ) (h g : Holder) (o x : ObjNo) → MayOwe threads r accepted k h o → ((y : ObjNo) → MayOwe threads r accepted k g y → ⊥) → same_pair h o g x ≡ 0
+pair_apart : (threads : List (Option ThreadRow)) (r : ServerRows) (accepted k : ℕ) (h g : Holder) (o x : ObjNo)
+    → MayOwe threads r accepted k h o → ((y : ObjNo) → MayOwe threads r accepted k g y → ⊥) → same_pair h o g x ≡ 0
 pair_apart threads r accepted k (Temp u) (Temp v) o x own apart = if_not (u.0 == v.0) (same o x) (eqb_apart u.0 v.0 (λ e. apart o (sym e ∙ own)))
 pair_apart threads r accepted k (Own u) (Own v) o x own apart = if_not (u.0 == v.0) (same o x) (eqb_apart u.0 v.0 (λ e. apart o (sym e ∙ own)))
-pair_apart threads r accepted k (Link u) (Link v) o x own apart = if_not (u.0 == v.0) (same o x) (eqb_apart u.0 v.0 (λ e. apart o (subst (λ (y : ObjNo). MayOwe threads r accepted k (Link y) o) (same_object u v e) own)))
+pair_apart threads r accepted k (Link u) (Link v) o x own apart =
+    if_not (u.0 == v.0) (same o x) (eqb_apart u.0 v.0
+    (λ e. apart o (subst (λ (y : ObjNo). MayOwe threads r accepted k (Link y) o) (same_object u v e) own)))
 pair_apart threads r accepted k (Message m) (Message n) o x own apart = if_not (m.0 == n.0) (same o x) (eqb_apart m.0 n.0 (λ e. apart o (omega arith)))
 pair_apart threads r accepted k (Temp u) _ o x own apart = refl
 pair_apart threads r accepted k (Own u) _ o x own apart = refl
@@ -132,19 +165,33 @@ pair_apart threads r accepted k Kernel Kernel o x own apart = absurd (apart o ow
 pair_apart threads r accepted k Kernel _ o x own apart = refl
 pair_apart threads r accepted k _ g o x own apart = absurd own
 
-not_owed : (threads : List (Option ThreadRow)) (r : ServerRows) (accepted k : ℕ) (what : List Owed) (g : Holder) (x : ObjNo) → EachMayOwe threads r accepted k what → ((y : ObjNo) → MayOwe threads r accepted k g y → ⊥) → total (owed_by g x) what ≡ 0
+not_owed : (threads : List (Option ThreadRow)) (r : ServerRows) (accepted k : ℕ) (what : List Owed) (g : Holder)
+    (x : ObjNo)
+    → EachMayOwe threads r accepted k what → ((y : ObjNo) → MayOwe threads r accepted k g y → ⊥)
+    → total (owed_by g x) what ≡ 0
 not_owed threads r accepted k [] g x h apart = refl
-not_owed threads r accepted k (Close j o ∷ rest) g x h apart = let a = pair_apart threads r accepted k j g o x h.0 apart in let r = not_owed threads r accepted k rest g x h.1 apart in omega arith
+not_owed threads r accepted k (Close j o ∷ rest) g x h apart =
+    let a = pair_apart threads r accepted k j g o x h.0 apart in
+    let r = not_owed threads r accepted k rest g x h.1 apart in
+    omega arith
 not_owed threads r accepted k (Sweep o ∷ rest) g x h apart = let r = not_owed threads r accepted k rest g x h apart in omega arith
 
 -- no close is owed of a holder whose references nobody may owe
-pub none_owed : (threads : List (Option ThreadRow)) (r : ServerRows) (accepted : ℕ) (owed : List (List Owed)) (g : Holder) (x : ObjNo) → AreDuties threads r accepted owed → ((k : ℕ) (y : ObjNo) → MayOwe threads r accepted k g y → ⊥) → total (total (owed_by g x)) owed ≡ 0
+pub none_owed : (threads : List (Option ThreadRow)) (r : ServerRows) (accepted : ℕ) (owed : List (List Owed))
+    (g : Holder) (x : ObjNo)
+    → AreDuties threads r accepted owed → ((k : ℕ) (y : ObjNo) → MayOwe threads r accepted k g y → ⊥)
+    → total (total (owed_by g x)) owed ≡ 0
 none_owed threads r accepted owed g x h apart =
-    let few : total (total (owed_by g x)) owed ≤ 0 * length owed = total_at_most (total (owed_by g x)) 0 owed [] (λ k inside. let a = not_owed threads r accepted k (get_or owed k []) g x (h.own k) (apart k) in omega arith) in
+    let few : total (total (owed_by g x)) owed
+    ≤ 0 * length owed = total_at_most (total (owed_by g x)) 0 owed []
+    (λ k inside. let a = not_owed threads r accepted k (get_or owed k []) g x (h.own k) (apart k) in omega arith) in
     omega arith
 
 -- no close is owed of a holder whose references only a thread may owe that owes none
-pub none_owed_by : (threads : List (Option ThreadRow)) (r : ServerRows) (accepted : ℕ) (owed : List (List Owed)) (t : ObjNo) (g : Holder) (x : ObjNo) → AreDuties threads r accepted owed → ((k : ℕ) (y : ObjNo) → MayOwe threads r accepted k g y → t.0 ≡ k) → total (owed_by g x) (get_or owed t.0 []) ≡ 0 → total (total (owed_by g x)) owed ≡ 0
+pub none_owed_by : (threads : List (Option ThreadRow)) (r : ServerRows) (accepted : ℕ) (owed : List (List Owed))
+    (t : ObjNo) (g : Holder) (x : ObjNo)
+    → AreDuties threads r accepted owed → ((k : ℕ) (y : ObjNo) → MayOwe threads r accepted k g y → t.0 ≡ k)
+    → total (owed_by g x) (get_or owed t.0 []) ≡ 0 → total (total (owed_by g x)) owed ≡ 0
 none_owed_by threads r accepted owed t g x h only paid =
     let few : total (total (owed_by g x)) owed ≤ 0 * length owed = total_at_most (total (owed_by g x)) 0 owed [] (λ k inside.
     elim (cases_eq t.0 k) as (λ _. total (owed_by g x) (get_or owed k []) ≤ 0) [

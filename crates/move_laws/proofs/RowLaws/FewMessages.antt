@@ -60,17 +60,23 @@ session_bit_le : (row : Option SessionRow) → session_bit row ≤ 1
 session_bit_le None = omega arith
 session_bit_le (Some row) = omega arith
 
-module _ (A : ObjNo → ℕ → Type 0) (below16 : (u : ObjNo) (s : ℕ) → A u s → s < 16) (threads : List (Option ThreadRow)) (servers : ServerRows) (r : MessageRows) (h : AreMessages A threads servers r) where
+module _ (A : ObjNo → ℕ → Type 0) (below16 : (u : ObjNo) (s : ℕ) → A u s → s < 16) (threads : List (Option ThreadRow))
+    (servers : ServerRows) (r : MessageRows) (h : AreMessages A threads servers r) where
   -- a message that a thread has a part in has that thread as its client, which is there
-  no_client : (k : ℕ) (f : Message → ℕ) → is_some (get_or threads k None) ≡ false → ((message : Message) → 0 < f message → message.row.client.0 ≡ k) → total f r.outstanding ≡ 0
+  no_client : (k : ℕ) (f : Message → ℕ) → is_some (get_or threads k None) ≡ false
+      → ((message : Message) → 0 < f message → message.row.client.0 ≡ k) → total f r.outstanding ≡ 0
   no_client k f none own = elim (cases_lt 0 (total f r.outstanding)) as (λ _. total f r.outstanding ≡ 0) [
     | inl some ↦
         let one = total_some f r.outstanding some in
-        let there : is_some (get_or threads k None) ≡ true = ap (λ (n : ℕ). is_some (get_or threads n None)) (sym (own one.0 one.2)) ∙ h.clients one.0 one.1 in absurd (cc)
+        let there : is_some (get_or threads k None)
+        ≡ true = ap (λ (n : ℕ). is_some (get_or threads n None)) (sym (own one.0 one.2)) ∙ h.clients one.0 one.1 in
+        absurd (cc)
     | inr nothing ↦ omega arith
   ]
 
-  client_bit : (k : ℕ) (f : Message → ℕ) → total f r.outstanding ≤ 1 → ((message : Message) → 0 < f message → message.row.client.0 ≡ k) → total f r.outstanding ≤ thread_bit (get_or threads k None)
+  client_bit : (k : ℕ) (f : Message → ℕ) → total f r.outstanding ≤ 1
+      → ((message : Message) → 0 < f message → message.row.client.0 ≡ k)
+      → total f r.outstanding ≤ thread_bit (get_or threads k None)
   client_bit k f few own = by (is_some (get_or threads k None)) refl
     where
       by : (b : Bool) → is_some (get_or threads k None) ≡ b → total f r.outstanding ≤ (if b then 1 else 0)
@@ -90,17 +96,21 @@ module _ (A : ObjNo → ℕ → Type 0) (below16 : (u : ObjNo) (s : ℕ) → A u
   sent_few : (k : ℕ) → total (sent_by k) r.outstanding ≤ 16 * thread_bit (get_or threads k None)
   sent_few k =
       let a = parted (sent_by k) (λ s message. sent_names (numbered k) s message) 16 r.outstanding (λ x there. omega arith) in
-      let b = below_at_most 16 (λ s. times_sent r.outstanding (numbered k) s) (thread_bit (get_or threads k None)) (λ s. client_bit k (sent_names (numbered k) s) (h.sent (numbered k) s) (sent_own k s)) in omega arith
+      let b = below_at_most 16 (λ s. times_sent r.outstanding (numbered k) s) (thread_bit (get_or threads k None))
+      (λ s. client_bit k (sent_names (numbered k) s) (h.sent (numbered k) s) (sent_own k s)) in
+      omega arith
 
   client_inside : (message : Message) → Contains r.outstanding message → message.row.client.0 < length threads
   client_inside message there = thread_inside threads message.row.client.0 (h.clients message there)
 
   -- a message with a status is one of those of its client
-  sent_counted : (message : Message) (way : Way) → message.row.way ≡ way → Contains r.outstanding message → async_bit_of way ≤ below (length threads) (λ k. sent_by k message)
+  sent_counted : (message : Message) (way : Way) → message.row.way ≡ way → Contains r.outstanding message
+      → async_bit_of way ≤ below (length threads) (λ k. sent_by k message)
   sent_counted message (Async s) is there =
       let client = message.row.client in
       let test : is_sent client s client (Async s) ≡ true = rw (eq-eqb client.0 client.0 refl, eq-eqb s s refl) refl in
-      let one : sent_names client s message ≡ 1 = ap (λ (way : Way). if is_sent client s client way then 1 else 0) is ∙ ap (λ (b : Bool). if b then 1 else 0) test in
+      let one : sent_names client s message ≡ 1 = ap (λ (way : Way). if is_sent client s client way then 1 else 0) is
+      ∙ ap (λ (b : Bool). if b then 1 else 0) test in
       let some = contains_total (sent_names client s) r.outstanding message there in
       let small = below16 client s (h.awaited client s (omega arith)) in
       let a = below_at_least 16 (λ j. sent_names client j message) s small in
@@ -108,10 +118,12 @@ module _ (A : ObjNo → ℕ → Type 0) (below16 : (u : ObjNo) (s : ℕ) → A u
   sent_counted message Sync is there = omega arith
   sent_counted message Disconnect is there = omega arith
 
-  call_counted : (message : Message) (way : Way) → message.row.way ≡ way → Contains r.outstanding message → sync_bit_of way ≤ below (length threads) (λ k. call_names (numbered k) message)
+  call_counted : (message : Message) (way : Way) → message.row.way ≡ way → Contains r.outstanding message
+      → sync_bit_of way ≤ below (length threads) (λ k. call_names (numbered k) message)
   call_counted message Sync is there =
       let client = message.row.client in
-      let one : call_names client message ≡ 1 = ap (λ (way : Way). if is_called client client way then 1 else 0) is ∙ ap (λ (b : Bool). if b then 1 else 0) (eq-eqb client.0 client.0 refl) in
+      let one : call_names client message ≡ 1 = ap (λ (way : Way). if is_called client client way then 1 else 0) is
+      ∙ ap (λ (b : Bool). if b then 1 else 0) (eq-eqb client.0 client.0 refl) in
       let b = below_at_least (length threads) (λ k. call_names (numbered k) message) client.0 (client_inside message there) in omega arith
   call_counted message (Async s) is there = omega arith
   call_counted message Disconnect is there = omega arith
@@ -124,13 +136,17 @@ module _ (A : ObjNo → ℕ → Type 0) (below16 : (u : ObjNo) (s : ℕ) → A u
       let a = parted async_bit sent_by (length threads) r.outstanding (λ x there. sent_counted x x.row.way refl there) in
       let b = below_rows 16 thread_bit (λ k. total (sent_by k) r.outstanding) threads None sent_few in
       let c = parted sync_bit (λ k message. call_names (numbered k) message) (length threads) r.outstanding (λ x there. call_counted x x.row.way refl there) in
-      let d = below_rows 1 thread_bit (λ k. times_called r.outstanding (numbered k)) threads None (λ k. let e = client_bit k (call_names (numbered k)) (h.called (numbered k)) (called_own k) in omega arith) in
+      let d = below_rows 1 thread_bit (λ k. times_called r.outstanding (numbered k)) threads None
+      (λ k. let e = client_bit k (call_names (numbered k)) (h.called (numbered k)) (called_own k) in omega arith) in
       let few = h.few in
       let g = total_at_most session_bit 1 servers.sessions None (λ i inside. session_bit_le (get_or servers.sessions i None)) in omega arith
 
 -- fewer messages than that are outstanding where one more may be accepted
-pub room_for_message : (script : Script) (S : State) (slots : Slots) (row : MsgRow) → MayAccept S row → AreRows script S → length S.serving.messages.outstanding < 5184
+pub room_for_message : (script : Script) (S : State) (slots : Slots) (row : MsgRow) → MayAccept S row → AreRows script S
+    → length S.serving.messages.outstanding < 5184
 room_for_message script S slots row may rows =
     let accepted = messages-accepted S slots row may rows.serving.messages in
-    let few = messages_few (IsUntold S.synchronization.requests S.synchronization.logons) (λ u s untold. untold.0.status) S.references.threads S.serving.servers (added S.serving.messages slots row) accepted rows.serving.servers.sessions_sized in
+    let few = messages_few (IsUntold S.synchronization.requests S.synchronization.logons)
+    (λ u s untold. untold.0.status) S.references.threads S.serving.servers
+    (added S.serving.messages slots row) accepted rows.serving.servers.sessions_sized in
     let more = length_push S.serving.messages.outstanding (record { number = next_number S.serving.messages; slots = slots; row = row }) in omega arith

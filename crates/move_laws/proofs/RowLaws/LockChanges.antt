@@ -53,7 +53,8 @@ either P o x here there = elim (cases_eq x.0 o.0) as (λ _. P x) [
   | inr apart ↦ there apart
 ]
 
-pub locks-one : (objects : ℕ) (threads : List (Option ThreadRow)) (p q : LockParts) (o : ObjNo) → ChangesOne objects threads p q o → AreLockParts objects threads p → AreLockParts objects threads q
+pub locks-one : (objects : ℕ) (threads : List (Option ThreadRow)) (p q : LockParts) (o : ObjNo)
+    → ChangesOne objects threads p q o → AreLockParts objects threads p → AreLockParts objects threads q
 locks-one objects threads p q o c h = record {
   owners_sized = c.owners_sized ∙ h.owners_sized;
   counts_sized = c.counts_sized ∙ h.counts_sized;
@@ -63,17 +64,21 @@ locks-one objects threads p q o c h = record {
   owned = λ x. either (λ (x : ObjNo). (owner : Owner) → owner_at q.rows x ≡ Some owner → times_held q.mutexes owner.thread x ≡ 1) o x c.owned
       (λ apart owner is. c.holds owner.thread x apart ∙ h.owned x owner (sym (c.owners x apart) ∙ is));
   held = λ t x. either (λ (x : ObjNo). 0 < times_held q.mutexes t x → IsOwnerOf q.rows t x) o x (c.held t)
-      (λ apart some. let same = c.holds t x apart in let was = h.held t x (omega arith) in record { owner = was.owner; is = c.owners x apart ∙ was.is; thread = was.thread });
+      (λ apart some. let same = c.holds t x apart in let was = h.held t x (omega arith) in
+      record { owner = was.owner; is = c.owners x apart ∙ was.is; thread = was.thread });
   waiters = λ t x. either (λ (x : ObjNo). is_among t (waiters_at q.rows x) ≡ true → Awaits threads t x) o x (λ among. (c.waiters t among).waits)
       (λ apart among. h.waiters t x (ap (is_among t) (sym (c.queues x apart)) ∙ among));
-  paid = λ t x. either (λ (x : ObjNo). is_among t (waiters_at q.rows x) ≡ true → total (owed_by (Own t) x) (get_or q.owed t.0 []) ≡ 0) o x (λ among. (c.waiters t among).paid)
+  paid =
+      λ t x. either (λ (x : ObjNo). is_among t (waiters_at q.rows x) ≡ true
+      → total (owed_by (Own t) x) (get_or q.owed t.0 []) ≡ 0) o x (λ among. (c.waiters t among).paid)
       (λ apart among. c.owes t x apart ∙ h.paid t x (ap (is_among t) (sym (c.queues x apart)) ∙ among));
   owners_made = λ x past. let inside = c.made in let apart : x.0 ≢ o.0 = λ e. absurd (omega arith) in c.owners x apart ∙ h.owners_made x past;
   waiters_made = λ x past. let inside = c.made in let apart : x.0 ≢ o.0 = λ e. absurd (omega arith) in c.queues x apart ∙ h.waiters_made x past;
 }
 
 -- the object's owner and waiters change, and with them what threads hold and owe
-pub record Passes (objects : ℕ) (threads : List (Option ThreadRow)) (p : LockParts) (o : ObjNo) (owner : Option Owner) (queue : List ObjNo) (mutexes : List (List ObjNo)) (owed : List (List Owed)) : Type 0 where
+pub record Passes (objects : ℕ) (threads : List (Option ThreadRow)) (p : LockParts) (o : ObjNo) (owner : Option Owner)
+    (queue : List ObjNo) (mutexes : List (List ObjNo)) (owed : List (List Owed)) : Type 0 where
   pub made : o.0 < objects
   pub few : objects ≤ OBJECTS
   pub long : length mutexes ≡ length p.mutexes
@@ -83,7 +88,9 @@ pub record Passes (objects : ℕ) (threads : List (Option ThreadRow)) (p : LockP
   pub held : (t : ObjNo) → 0 < times_held mutexes t o → (w : Owner) × (owner ≡ Some w) × (w.thread.0 ≡ t.0)
   pub waiters : (t : ObjNo) → is_among t queue ≡ true → MayStand threads owed t o
 
-pub locks-passed : (objects : ℕ) (threads : List (Option ThreadRow)) (p : LockParts) (o : ObjNo) (owner : Option Owner) (queue : List ObjNo) (mutexes : List (List ObjNo)) (owed : List (List Owed)) → Passes objects threads p o owner queue mutexes owed → AreLockParts objects threads p
+pub locks-passed : (objects : ℕ) (threads : List (Option ThreadRow)) (p : LockParts) (o : ObjNo) (owner : Option Owner)
+    (queue : List ObjNo) (mutexes : List (List ObjNo)) (owed : List (List Owed))
+    → Passes objects threads p o owner queue mutexes owed → AreLockParts objects threads p
     → AreLocks objects threads mutexes owed (record p.rows { owners = set p.rows.owners o.0 owner; waiters = set p.rows.waiters o.0 queue })
 locks-passed objects threads p o owner queue mutexes owed c h = locks-one objects threads p (record { rows = new; mutexes = mutexes; owed = owed }) o (record {
   owners_sized = length-set p.rows.owners o.0 owner;
@@ -111,23 +118,27 @@ locks-passed objects threads p o owner queue mutexes owed c h = locks-one object
     queue_is = let long = h.waiters_sized in let inside = c.made in let few = c.few in get_or-set_same p.rows.waiters o.0 queue [] (omega arith)
 
 -- the object's count and waiters change
-pub locks-counted : (objects : ℕ) (threads : List (Option ThreadRow)) (p : LockParts) (o : ObjNo) (count : ℕ) (queue : List ObjNo) → o.0 < objects → objects ≤ OBJECTS → count ≤ 2147483647 → ((t : ObjNo) → is_among t queue ≡ true → MayStand threads p.owed t o) → AreLockParts objects threads p
+pub locks-counted : (objects : ℕ) (threads : List (Option ThreadRow)) (p : LockParts) (o : ObjNo) (count : ℕ)
+    (queue : List ObjNo)
+    → o.0 < objects → objects ≤ OBJECTS → count ≤ 2147483647
+    → ((t : ObjNo) → is_among t queue ≡ true → MayStand threads p.owed t o) → AreLockParts objects threads p
     → AreLocks objects threads p.mutexes p.owed (record p.rows { counts = set p.rows.counts o.0 count; waiters = set p.rows.waiters o.0 queue })
-locks-counted objects threads p o count queue made few small stands h = locks-one objects threads p (record { rows = new; mutexes = p.mutexes; owed = p.owed }) o (record {
-  owners_sized = refl;
-  counts_sized = length-set p.rows.counts o.0 count;
-  waiters_sized = length-set p.rows.waiters o.0 queue;
-  mutexes_sized = refl;
-  made = made;
-  counts = λ x. set_item (λ (n : ℕ). n ≤ 2147483647) p.rows.counts o.0 x.0 count 0 (λ _. small) (h.counts x);
-  owners = λ x apart. refl;
-  queues = λ x apart. get_or-set_other p.rows.waiters o.0 x.0 queue [] apart;
-  holds = λ t x apart. refl;
-  owes = λ t x apart. refl;
-  owned = h.owned o;
-  held = λ t some. let was = h.held t o some in record { owner = was.owner; is = was.is; thread = was.thread };
-  waiters = λ t among. stands t (ap (is_among t) (sym queue_is) ∙ among);
-}) h
+locks-counted objects threads p o count queue made few small stands h =
+    locks-one objects threads p (record { rows = new; mutexes = p.mutexes; owed = p.owed }) o (record {
+      owners_sized = refl;
+      counts_sized = length-set p.rows.counts o.0 count;
+      waiters_sized = length-set p.rows.waiters o.0 queue;
+      mutexes_sized = refl;
+      made = made;
+      counts = λ x. set_item (λ (n : ℕ). n ≤ 2147483647) p.rows.counts o.0 x.0 count 0 (λ _. small) (h.counts x);
+      owners = λ x apart. refl;
+      queues = λ x apart. get_or-set_other p.rows.waiters o.0 x.0 queue [] apart;
+      holds = λ t x apart. refl;
+      owes = λ t x apart. refl;
+      owned = h.owned o;
+      held = λ t some. let was = h.held t o some in record { owner = was.owner; is = was.is; thread = was.thread };
+      waiters = λ t among. stands t (ap (is_among t) (sym queue_is) ∙ among);
+    }) h
   where
     new : LockRows
     new = record p.rows { counts = set p.rows.counts o.0 count; waiters = set p.rows.waiters o.0 queue }

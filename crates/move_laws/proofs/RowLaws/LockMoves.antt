@@ -74,9 +74,13 @@ left_at [] t k = refl
 left_at (queue ∷ rest) t zero = refl
 left_at (queue ∷ rest) t (suc k) = left_at rest t k
 
-pub locks-leave : (objects : ℕ) (threads : List (Option ThreadRow)) (p : LockParts) (u : ObjNo) → AreLockParts objects threads p → AreLocks objects threads p.mutexes p.owed (after_remove p.rows u)
+pub locks-leave : (objects : ℕ) (threads : List (Option ThreadRow)) (p : LockParts) (u : ObjNo)
+    → AreLockParts objects threads p → AreLocks objects threads p.mutexes p.owed (after_remove p.rows u)
 locks-leave objects threads p u h =
-    let stood : (t o : ObjNo) → is_among t (waiters_at (after_remove p.rows u) o) ≡ true → is_among t (waiters_at p.rows o) ≡ true = λ t o among. among-without (waiters_at p.rows o) u t (ap (is_among t) (sym (left_at p.rows.waiters u o.0)) ∙ among) in
+    let stood : (t o : ObjNo) → is_among t (waiters_at (after_remove p.rows u) o) ≡ true
+    → is_among t (waiters_at p.rows o) ≡ true =
+    λ t o among. among-without (waiters_at p.rows o) u t
+    (ap (is_among t) (sym (left_at p.rows.waiters u o.0)) ∙ among) in
     record {
       owners_sized = h.owners_sized;
       counts_sized = h.counts_sized;
@@ -91,7 +95,8 @@ locks-leave objects threads p u h =
       waiters_made = λ o past. left_at p.rows.waiters u o.0 ∙ ap (without u) (h.waiters_made o past);
     }
 
-module _ (objects : ℕ) (threads : List (Option ThreadRow)) (p : LockParts) (h : AreLockParts objects threads p) (few : objects ≤ OBJECTS) (o : ObjNo) (made : o.0 < objects) where
+module _ (objects : ℕ) (threads : List (Option ThreadRow)) (p : LockParts) (h : AreLockParts objects threads p)
+    (few : objects ≤ OBJECTS) (o : ObjNo) (made : o.0 < objects) where
   -- whoever stands among the waiters
   stands : (t : ObjNo) → is_among t (waiters_at p.rows o) ≡ true → MayStand threads p.owed t o
   stands t among = record { waits = h.waiters t o among; paid = h.paid t o among }
@@ -103,7 +108,10 @@ module _ (objects : ℕ) (threads : List (Option ThreadRow)) (p : LockParts) (h 
   ]
 
   -- the owner's thread stays
-  kept_owner : (owner : Option Owner) (queue : List ObjNo) → KeepsOwner (owner_at p.rows o) owner → ((t : ObjNo) → is_among t queue ≡ true → MayStand threads p.owed t o) → AreLocks objects threads p.mutexes p.owed (record p.rows { owners = set p.rows.owners o.0 owner; waiters = set p.rows.waiters o.0 queue })
+  kept_owner : (owner : Option Owner) (queue : List ObjNo) → KeepsOwner (owner_at p.rows o) owner
+      → ((t : ObjNo) → is_among t queue ≡ true → MayStand threads p.owed t o)
+      → AreLocks objects threads p.mutexes p.owed
+      (record p.rows { owners = set p.rows.owners o.0 owner; waiters = set p.rows.waiters o.0 queue })
   kept_owner owner queue keeps waiting = locks-passed objects threads p o owner queue p.mutexes p.owed (record {
     made = made;
     few = few;
@@ -134,26 +142,39 @@ module _ (objects : ℕ) (threads : List (Option ThreadRow)) (p : LockParts) (h 
   none_held free t = zero_or (times_held p.mutexes t o) (λ some. let v = h.held t o some in let is = v.is in absurd (cc))
 
   -- a thread takes a mutex that nobody holds, whichever threads hold what else
-  taken : (mutexes : List (List ObjNo)) (t : ObjNo) (queue : List ObjNo) (owed : List (List Owed)) → t.0 < length mutexes → length mutexes ≡ length p.mutexes → ((u : ObjNo) → times_held mutexes u o ≡ 0) → ((u x : ObjNo) → x.0 ≢ o.0 → times_held mutexes u x ≡ times_held p.mutexes u x)
-      → ((u x : ObjNo) → x.0 ≢ o.0 → total (owed_by (Own u) x) (get_or owed u.0 []) ≡ total (owed_by (Own u) x) (get_or p.owed u.0 [])) → ((u : ObjNo) → is_among u queue ≡ true → MayStand threads owed u o)
+  taken : (mutexes : List (List ObjNo)) (t : ObjNo) (queue : List ObjNo) (owed : List (List Owed))
+      → t.0 < length mutexes → length mutexes ≡ length p.mutexes → ((u : ObjNo) → times_held mutexes u o ≡ 0)
+      → ((u x : ObjNo) → x.0 ≢ o.0 → times_held mutexes u x ≡ times_held p.mutexes u x)
+      → ((u x : ObjNo) → x.0 ≢ o.0 → total (owed_by (Own u) x) (get_or owed u.0 [])
+      ≡ total (owed_by (Own u) x) (get_or p.owed u.0 []))
+      → ((u : ObjNo) → is_among u queue ≡ true → MayStand threads owed u o)
       → AreLocks objects threads (holding mutexes t o) owed (record p.rows { owners = set p.rows.owners o.0 (once t); waiters = set p.rows.waiters o.0 queue })
   taken mutexes t queue owed inside long none others owes waiting = locks-passed objects threads p o (once t) queue (holding mutexes t o) owed (record {
     made = made;
     few = few;
     long = length-set mutexes t.0 _ ∙ long;
-    holds = λ u x apart. let a = held-holding mutexes t o u x inside in let b = if_zero (t.0 == u.0) (same o x) (same_other o x (λ e. apart (sym e))) in let c = others u x apart in omega arith;
+    holds =
+        λ u x apart. let a = held-holding mutexes t o u x inside in
+        let b = if_zero (t.0 == u.0) (same o x) (same_other o x (λ e. apart (sym e))) in let c = others u x apart in
+        omega arith;
     owes = owes;
     owned = λ w is.
         let own : record { thread = t; level = 1 } ≡ w = cc in
-        subst (λ (w : Owner). times_held (holding mutexes t o) w.thread o ≡ 1) own (let a = held-holding mutexes t o t o inside in let b = pair_self (Own t) o in let c = none t in omega arith);
+        subst (λ (w : Owner). times_held (holding mutexes t o) w.thread o ≡ 1) own
+        (let a = held-holding mutexes t o t o inside in let b = pair_self (Own t) o in let c = none t in omega arith);
     held = λ u some. elim (cases_eq t.0 u.0) as (λ _. (w : Owner) × (once t ≡ Some w) × (w.thread.0 ≡ u.0)) [
       | inl at ↦ (record { thread = t; level = 1 }, refl, at)
-      | inr apart ↦ let a = held-holding mutexes t o u o inside in let b = if_not (t.0 == u.0) (same o o) (eqb_apart t.0 u.0 apart) in let c = none u in absurd (omega arith)
+      | inr apart ↦
+          let a = held-holding mutexes t o u o inside in
+          let b = if_not (t.0 == u.0) (same o o) (eqb_apart t.0 u.0 apart) in
+          let c = none u in
+          absurd (omega arith)
     ];
     waiters = waiting;
   }) h
 
-  pub locks-taken : (t : ObjNo) → owner_at p.rows o ≡ None → t.0 < length p.mutexes → AreLocks objects threads (holding p.mutexes t o) p.owed (after_lock p.rows o t Taken)
+  pub locks-taken : (t : ObjNo) → owner_at p.rows o ≡ None → t.0 < length p.mutexes
+      → AreLocks objects threads (holding p.mutexes t o) p.owed (after_lock p.rows o t Taken)
   locks-taken t free inside = taken p.mutexes t (waiters_at p.rows o) p.owed inside refl (none_held free) (λ u x apart. refl) (λ u x apart. refl) stands
 
   -- a semaphore starts with its count
@@ -179,12 +200,20 @@ module _ (objects : ℕ) (threads : List (Option ThreadRow)) (p : LockParts) (h 
       small : count_at p.rows o - 1 ≤ 2147483647
       small = let a = h.counts o in omega arith
 
-      by : (b : Bool) → (count_at p.rows o == 0) ≡ b → AreLocks objects threads p.mutexes p.owed (record p.rows { counts = set p.rows.counts o.0 (count_at p.rows o - 1); waiters = set p.rows.waiters o.0 (if b then waiters_at p.rows o ++ t ∷ [] else waiters_at p.rows o) })
-      by true e = locks-counted objects threads p o _ (waiters_at p.rows o ++ t ∷ []) made few small (stands-push t (joins (eqb-true (count_at p.rows o) 0 e))) h
+      by : (b : Bool) → (count_at p.rows o == 0) ≡ b
+          → AreLocks objects threads p.mutexes p.owed
+          (record p.rows {
+            counts = set p.rows.counts o.0 (count_at p.rows o - 1);
+            waiters = set p.rows.waiters o.0 (if b then waiters_at p.rows o ++ t ∷ [] else waiters_at p.rows o);
+          })
+      by true e = locks-counted objects threads p o _ (waiters_at p.rows o ++ t ∷ []) made few small
+          (stands-push t (joins (eqb-true (count_at p.rows o) 0 e))) h
       by false e = locks-counted objects threads p o _ (waiters_at p.rows o) made few small stands h
 
   pub locks-signal : (signalled : Signalled) → AreLocks objects threads p.mutexes p.owed (after_signal p.rows o signalled)
-  locks-signal signalled = locks-counted objects threads p o (count_after_signal (count_at p.rows o) signalled) (waiters_after_signal (waiters_at p.rows o) signalled) made few (small signalled) (waiting signalled) h
+  locks-signal signalled =
+      locks-counted objects threads p o (count_after_signal (count_at p.rows o) signalled)
+      (waiters_after_signal (waiters_at p.rows o) signalled) made few (small signalled) (waiting signalled) h
     where
       risen : (count : ℕ) (b : Bool) → nat_lt count 2147483647 ≡ b → count ≤ 2147483647 → (if b then count + 1 else count) ≤ 2147483647
       risen count true e le = let below = ltb-true count 2147483647 e in omega arith
@@ -201,7 +230,8 @@ module _ (objects : ℕ) (threads : List (Option ThreadRow)) (p : LockParts) (h 
       waiting Overflow t among = stands t among
 
   -- its owner gives a mutex up
-  module _ (t : ObjNo) (owner : Owner) (is : owner_at p.rows o ≡ Some owner) (own : owner.thread.0 ≡ t.0) (inside : t.0 < length p.mutexes) (nowhere : is_among t (waiters_at p.rows o) ≡ false) where
+  module _ (t : ObjNo) (owner : Owner) (is : owner_at p.rows o ≡ Some owner) (own : owner.thread.0 ≡ t.0)
+      (inside : t.0 < length p.mutexes) (nowhere : is_among t (waiters_at p.rows o) ≡ false) where
     -- it held it once
     pub held_once : times_held p.mutexes t o ≡ 1
     held_once = subst (λ (u : ObjNo). times_held p.mutexes u o ≡ 1) (same_object owner.thread t own) (h.owned o owner is)
@@ -215,7 +245,10 @@ module _ (objects : ℕ) (threads : List (Option ThreadRow)) (p : LockParts) (h 
     -- so nobody holds it then
     pub given_none : (u : ObjNo) → times_held (not_holding p.mutexes t o) u o ≡ 0
     given_none u = elim (cases_eq t.0 u.0) as (λ _. times_held (not_holding p.mutexes t o) u o ≡ 0) [
-      | inl at ↦ subst (λ (u : ObjNo). times_held (not_holding p.mutexes t o) u o ≡ 0) (same_object t u at) (let a = held-not_holding p.mutexes t o t o inside held_once in let b = pair_self (Own t) o in let c = held_once in omega arith)
+      | inl at ↦
+          subst (λ (u : ObjNo). times_held (not_holding p.mutexes t o) u o ≡ 0) (same_object t u at)
+          (let a = held-not_holding p.mutexes t o t o inside held_once in let b = pair_self (Own t) o in
+          let c = held_once in omega arith)
       | inr apart ↦
           let a = held-not_holding p.mutexes t o u o inside held_once in
           zero_or (times_held (not_holding p.mutexes t o) u o) (λ some.
@@ -225,23 +258,32 @@ module _ (objects : ℕ) (threads : List (Option ThreadRow)) (p : LockParts) (h 
     ]
 
     given_others : (u x : ObjNo) → x.0 ≢ o.0 → times_held given u x ≡ times_held p.mutexes u x
-    given_others u x apart = let a = held-not_holding p.mutexes t o u x inside held_once in let b = if_zero (t.0 == u.0) (same o x) (same_other o x (λ e. apart (sym e))) in omega arith
+    given_others u x apart = let a = held-not_holding p.mutexes t o u x inside held_once in
+        let b = if_zero (t.0 == u.0) (same o x) (same_other o x (λ e. apart (sym e))) in omega arith
 
     -- it owes that close, and nobody owes any other
     owes_others : (u x : ObjNo) → x.0 ≢ o.0 → total (owed_by (Own u) x) (get_or owes_close u.0 []) ≡ total (owed_by (Own u) x) (get_or p.owed u.0 [])
-    owes_others u x apart = elim (set_either p.owed t.0 (get_or p.owed t.0 [] ++ Close (Own t) o ∷ []) u.0 []) as (λ _. total (owed_by (Own u) x) (get_or owes_close u.0 []) ≡ total (owed_by (Own u) x) (get_or p.owed u.0 [])) [
-      | inl at ↦
-          let a = ap (total (owed_by (Own u) x)) at.1 in
-          let b = total-append (owed_by (Own u) x) (get_or p.owed t.0 []) (Close (Own t) o ∷ []) in
-          let c = if_zero (t.0 == u.0) (same o x) (same_other o x (λ e. apart (sym e))) in
-          let d : total (owed_by (Own u) x) (get_or p.owed t.0 []) ≡ total (owed_by (Own u) x) (get_or p.owed u.0 []) = ap (λ (n : ℕ). total (owed_by (Own u) x) (get_or p.owed n [])) (sym at.0) in omega arith
-      | inr e ↦ ap (total (owed_by (Own u) x)) e
-    ]
+    owes_others u x apart = elim (set_either p.owed t.0 (get_or p.owed t.0 [] ++ Close (Own t) o ∷ []) u.0 []) as
+        (λ _. total (owed_by (Own u) x) (get_or owes_close u.0 []) ≡ total (owed_by (Own u) x) (get_or p.owed u.0 [])) [
+          | inl at ↦
+              let a = ap (total (owed_by (Own u) x)) at.1 in
+              let b = total-append (owed_by (Own u) x) (get_or p.owed t.0 []) (Close (Own t) o ∷ []) in
+              let c = if_zero (t.0 == u.0) (same o x) (same_other o x (λ e. apart (sym e))) in
+              let d : total (owed_by (Own u) x) (get_or p.owed t.0 []) ≡ total (owed_by (Own u) x) (get_or p.owed u.0 []) =
+              ap (λ (n : ℕ). total (owed_by (Own u) x) (get_or p.owed n [])) (sym at.0) in
+              omega arith
+          | inr e ↦ ap (total (owed_by (Own u) x)) e
+        ]
 
     stands_then : (u : ObjNo) → is_among u (waiters_at p.rows o) ≡ true → MayStand threads owes_close u o
     stands_then u among = record {
       waits = h.waiters u o among;
-      paid = ap (total (owed_by (Own u) o)) (get_or-set_other p.owed t.0 u.0 _ [] (λ at. let same : is_among u (waiters_at p.rows o) ≡ is_among t (waiters_at p.rows o) = ap (λ (n : ℕ). is_among (record { 0 = n }) (waiters_at p.rows o)) at in absurd (cc))) ∙ h.paid u o among;
+      paid =
+          ap (total (owed_by (Own u) o)) (get_or-set_other p.owed t.0 u.0 _ []
+          (λ at. let same : is_among u (waiters_at p.rows o)
+          ≡ is_among t (waiters_at p.rows o) = ap (λ (n : ℕ). is_among (record { 0 = n }) (waiters_at p.rows o)) at in
+          absurd (cc)))
+          ∙ h.paid u o among;
     }
 
     -- the mutex is free
@@ -258,6 +300,10 @@ module _ (objects : ℕ) (threads : List (Option ThreadRow)) (p : LockParts) (h 
     }) h
 
     -- or a waiter's
-    pub locks-given : (w : ObjNo) → w.0 < length p.mutexes → AreLocks objects threads (holding (not_holding p.mutexes t o) w o) (owing p.owed t (Close (Own t) o ∷ [])) (after_unlock p.rows o (Passed w))
-    locks-given w there = taken given w (without w (waiters_at p.rows o)) owes_close (let long = length-set p.mutexes t.0 (without o (get_or p.mutexes t.0 [])) in omega arith) (length-set p.mutexes t.0 _) given_none given_others owes_others
+    pub locks-given : (w : ObjNo) → w.0 < length p.mutexes
+        → AreLocks objects threads (holding (not_holding p.mutexes t o) w o) (owing p.owed t (Close (Own t) o ∷ []))
+        (after_unlock p.rows o (Passed w))
+    locks-given w there = taken given w (without w (waiters_at p.rows o)) owes_close
+        (let long = length-set p.mutexes t.0 (without o (get_or p.mutexes t.0 [])) in omega arith)
+        (length-set p.mutexes t.0 _) given_none given_others owes_others
         (λ u among. stands_then u (among-without (waiters_at p.rows o) w u among))

@@ -53,14 +53,17 @@ filtered_each f p [] = omega arith
 filtered_each f p (x ∷ xs) = let a = total-filter f p x in let b = filtered_each f p xs in omega arith
 
 -- another list at a place
-pub total-at : {A : Type 0} (f : A → ℕ) (xs : List (List A)) (i : ℕ) (ys : List A) → total f ys ≤ total f (get_or xs i []) → total (total f) (set xs i ys) ≤ total (total f) xs
+pub total-at : {A : Type 0} (f : A → ℕ) (xs : List (List A)) (i : ℕ) (ys : List A)
+    → total f ys ≤ total f (get_or xs i []) → total (total f) (set xs i ys) ≤ total (total f) xs
 total-at f xs i ys le = elim (cases_lt i (length xs)) as (λ _. total (total f) (set xs i ys) ≤ total (total f) xs) [
   | inl inside ↦ let a = total-set (total f) xs i ys [] inside in omega arith
   | inr past ↦ let same = set_past xs i ys past in let a = ap (total (total f)) same in omega arith
 ]
 
 -- fewer logons
-logons-fewer : (count : ℕ) (r : RequestRows) (logons other : List (List (ObjNo × ℕ))) → length other ≡ length logons → ((u : ObjNo) (s : ℕ) → times_logged other u s ≤ times_logged logons u s) → AreLogons count r logons → AreLogons count r other
+logons-fewer : (count : ℕ) (r : RequestRows) (logons other : List (List (ObjNo × ℕ))) → length other ≡ length logons
+    → ((u : ObjNo) (s : ℕ) → times_logged other u s ≤ times_logged logons u s) → AreLogons count r logons
+    → AreLogons count r other
 logons-fewer count r logons other long fewer h = record {
   sized = long ∙ h.sized;
   once = λ u s. let a = fewer u s in let b = h.once u s in omega arith;
@@ -68,34 +71,52 @@ logons-fewer count r logons other long fewer h = record {
 }
 
 -- a logon more
-pub logon-added : (logons : List (List (ObjNo × ℕ))) (t u : ObjNo) (s : ℕ) → t.0 < length logons → (v : ObjNo) (w : ℕ) → times_logged (set logons t.0 (logons_on logons t ++ (u, s) ∷ [])) v w ≡ times_logged logons v w + logon_names v w (u, s)
+pub logon-added : (logons : List (List (ObjNo × ℕ))) (t u : ObjNo) (s : ℕ) → t.0 < length logons → (v : ObjNo) (w : ℕ)
+    → times_logged (set logons t.0 (logons_on logons t ++ (u, s) ∷ [])) v w
+    ≡ times_logged logons v w + logon_names v w (u, s)
 logon-added logons t u s inside v w =
     let a = total-set (total (logon_names v w)) logons t.0 (logons_on logons t ++ (u, s) ∷ []) [] inside in
     let b = total-append (logon_names v w) (logons_on logons t) ((u, s) ∷ []) in omega arith
 
 -- a move in the rows of logons that fits keeps them
-pub logons-moved : (S : State) (m : LogonMove) → FitsLogons m S → AreLogons (length S.references.threads) S.synchronization.requests S.synchronization.logons → AreLogons (length S.references.threads) S.synchronization.requests (logons_moved m S.synchronization.logons)
+pub logons-moved : (S : State) (m : LogonMove) → FitsLogons m S
+    → AreLogons (length S.references.threads) S.synchronization.requests S.synchronization.logons
+    → AreLogons (length S.references.threads) S.synchronization.requests (logons_moved m S.synchronization.logons)
 logons-moved S (logon.Add t u s) fits h = record {
   sized = length-set S.synchronization.logons t.0 _ ∙ h.sized;
   once = λ v w. let a = added v w in let b = h.once v w in let c = names_few v w (u, s) in
       elim (cases_lt 0 (logon_names v w (u, s))) as (λ _. times_logged (logons_moved (logon.Add t u s) S.synchronization.logons) v w ≤ 1) [
-        | inl one ↦ let own = the_logon v w u s one in let none : times_logged S.synchronization.logons v w ≡ 0 = subst (λ (x : ObjNo). times_logged S.synchronization.logons x w ≡ 0) own.0 (subst (λ (n : ℕ). times_logged S.synchronization.logons u n ≡ 0) own.1 fits.2) in omega arith
+        | inl one ↦
+            let own = the_logon v w u s one in
+            let none : times_logged S.synchronization.logons v w
+            ≡ 0 = subst (λ (x : ObjNo). times_logged S.synchronization.logons x w ≡ 0) own.0
+            (subst (λ (n : ℕ). times_logged S.synchronization.logons u n ≡ 0) own.1 fits.2) in
+            omega arith
         | inr no_name ↦ omega arith
       ];
   waits = λ v w some. let a = added v w in
       elim (cases_lt 0 (logon_names v w (u, s))) as (λ _. IsAwaited S.synchronization.requests v w) [
-        | inl one ↦ let own = the_logon v w u s one in subst (λ (x : ObjNo). IsAwaited S.synchronization.requests x w) own.0 (subst (λ (n : ℕ). IsAwaited S.synchronization.requests u n) own.1 fits.1)
+        | inl one ↦
+            let own = the_logon v w u s one in
+            subst (λ (x : ObjNo). IsAwaited S.synchronization.requests x w) own.0
+            (subst (λ (n : ℕ). IsAwaited S.synchronization.requests u n) own.1 fits.1)
         | inr no_name ↦ h.waits v w (omega arith)
       ];
 }
   where
-    added : (v : ObjNo) (w : ℕ) → times_logged (logons_moved (logon.Add t u s) S.synchronization.logons) v w ≡ times_logged S.synchronization.logons v w + logon_names v w (u, s)
+    added : (v : ObjNo) (w : ℕ) → times_logged (logons_moved (logon.Add t u s) S.synchronization.logons) v w
+        ≡ times_logged S.synchronization.logons v w + logon_names v w (u, s)
     added v w = logon-added S.synchronization.logons t u s (let long = h.sized in let inside = fits.0 in omega arith) v w
 logons-moved S (logon.Remove t u s) fits h =
-    logons-fewer (length S.references.threads) S.synchronization.requests S.synchronization.logons (set S.synchronization.logons t.0 (without_logon u s (logons_on S.synchronization.logons t))) (length-set S.synchronization.logons t.0 _)
-    (λ v w. total-at (logon_names v w) S.synchronization.logons t.0 (without_logon u s (logons_on S.synchronization.logons t)) (total-filter (logon_names v w) (λ (x : ObjNo × ℕ). not (is_logon u s x)) (logons_on S.synchronization.logons t))) h
+    logons-fewer (length S.references.threads) S.synchronization.requests S.synchronization.logons
+    (set S.synchronization.logons t.0 (without_logon u s (logons_on S.synchronization.logons t)))
+    (length-set S.synchronization.logons t.0 _)
+    (λ v w. total-at (logon_names v w) S.synchronization.logons t.0
+    (without_logon u s (logons_on S.synchronization.logons t))
+    (total-filter (logon_names v w) (λ (x : ObjNo × ℕ). not (is_logon u s x)) (logons_on S.synchronization.logons t))) h
 logons-moved S (logon.Drop u) fits h =
-    logons-fewer (length S.references.threads) S.synchronization.requests S.synchronization.logons (map (without_maker u) S.synchronization.logons) (length-map S.synchronization.logons (without_maker u))
+    logons-fewer (length S.references.threads) S.synchronization.requests S.synchronization.logons
+    (map (without_maker u) S.synchronization.logons) (length-map S.synchronization.logons (without_maker u))
     (λ v w. filtered_each (logon_names v w) (λ (x : ObjNo × ℕ). not (is_made_by u x)) S.synchronization.logons) h
 
 -- statuses that are awaited stay so where a request begins or is completed, and where another status is written
@@ -103,10 +124,16 @@ abbrev pub Spares : RequestMove → ObjNo → ℕ → Type 0
 Spares (Signal t w code) u s = u.0 ≡ t.0 → s ≡ w → ⊥
 Spares _ u s = Unit {0}
 
-pub still_awaited : (count : ℕ) (r : RequestRows) (m : RequestMove) (logons : List (List (ObjNo × ℕ))) (u : ObjNo) (s : ℕ) → AreRequests count r → FitsRequests m r logons → Spares m u s → IsAwaited r u s → IsAwaited (request_moved m r) u s
+pub still_awaited : (count : ℕ) (r : RequestRows) (m : RequestMove) (logons : List (List (ObjNo × ℕ))) (u : ObjNo)
+    (s : ℕ)
+    → AreRequests count r → FitsRequests m r logons → Spares m u s → IsAwaited r u s → IsAwaited (request_moved m r) u s
 still_awaited count r (Begin d t w) logons u s rows fits spares h = by (is_some (request_at r d)) (ap is_some fits.free)
   where
-    by : (had : Bool) → had ≡ false → IsAwaited (record r { devices = if had then r.devices else set r.devices d (Some (of_status t w)); statuses = with_status r.statuses t w pending }) u s
+    by : (had : Bool) → had ≡ false → IsAwaited
+        (record r {
+          devices = if had then r.devices else set r.devices d (Some (of_status t w));
+          statuses = with_status r.statuses t w pending;
+        }) u s
     by true is = absurd (cc)
     by false is = record {
       thread = h.thread;
@@ -123,7 +150,11 @@ still_awaited count r (Begin d t w) logons u s rows fits spares h = by (is_some 
 still_awaited count r (Complete d t w code) logons u s rows fits spares h = record {
   thread = let long : length (request_moved (Complete d t w code) r).signals ≡ length r.signals = length-set r.signals t.0 _ in let a = h.thread in omega arith;
   status = h.status;
-  waits = status_item (λ (value : ℤ). int_eq value pending ≡ true) r.statuses t w code u s (λ thread status. absurd (h.alone d (fits.1 ∙ ap Some (ap (λ (x : ObjNo). of_status x w) (sym (same_object u t thread)) ∙ ap (of_status u) (sym status))))) h.waits;
+  waits =
+      status_item (λ (value : ℤ). int_eq value pending ≡ true) r.statuses t w code u s
+      (λ thread status. absurd (h.alone d (fits.1
+      ∙ ap Some (ap (λ (x : ObjNo). of_status x w) (sym (same_object u t thread)) ∙ ap (of_status u) (sym status)))))
+      h.waits;
   alone = λ e at. h.alone e (device_had r.devices d e (of_status u s) fits.0 at).1;
 }
 still_awaited count r (SetPending t w) logons u s rows fits spares h = record {
@@ -139,17 +170,42 @@ still_awaited count r (Signal t w code) logons u s rows fits spares h = record {
       (λ thread status. absurd (spares thread status)) h.waits;
   alone = h.alone;
 }
-still_awaited count r (DropAll t) logons u s rows fits spares h = record { thread = h.thread; status = h.status; waits = h.waits; alone = λ d at. h.alone d (dropped t r.devices d (of_status u s) at) }
-still_awaited count r (TakeSignal t) logons u s rows fits spares h = record { thread = let long : length (request_moved (TakeSignal t) r).signals ≡ length r.signals = length-set r.signals t.0 _ in let a = h.thread in omega arith; status = h.status; waits = h.waits; alone = h.alone }
+still_awaited count r (DropAll t) logons u s rows fits spares h = record {
+  thread = h.thread;
+  status = h.status;
+  waits = h.waits;
+  alone = λ d at. h.alone d (dropped t r.devices d (of_status u s) at);
+}
+still_awaited count r (TakeSignal t) logons u s rows fits spares h = record {
+  thread =
+      let long : length (request_moved (TakeSignal t) r).signals ≡ length r.signals = length-set r.signals t.0 _ in
+      let a = h.thread in
+      omega arith;
+  status = h.status;
+  waits = h.waits;
+  alone = h.alone;
+}
 still_awaited count r (Reply t code) logons u s rows fits spares h = record { thread = h.thread; status = h.status; waits = h.waits; alone = h.alone }
 
 -- the status of a logon is no other that is completed
-spares_logged : (r : RequestRows) (m : RequestMove) (logons : List (List (ObjNo × ℕ))) (u : ObjNo) (s : ℕ) → FitsRequests m r logons → 0 < times_logged logons u s → Spares m u s
-spares_logged r (Signal t w code) logons u s fits some = λ thread status. let none : times_logged logons u s ≡ 0 = ap (λ (x : ObjNo). times_logged logons x s) (same_object u t thread) ∙ (ap (times_logged logons t) status ∙ fits.1) in absurd (omega arith)
+spares_logged : (r : RequestRows) (m : RequestMove) (logons : List (List (ObjNo × ℕ))) (u : ObjNo) (s : ℕ)
+    → FitsRequests m r logons → 0 < times_logged logons u s → Spares m u s
+spares_logged r (Signal t w code) logons u s fits some =
+    λ thread status. let none : times_logged logons u s
+    ≡ 0 = ap (λ (x : ObjNo). times_logged logons x s) (same_object u t thread)
+    ∙ (ap (times_logged logons t) status ∙ fits.1) in absurd (omega arith)
 spares_logged r _ logons u s fits some = tt
 
-pub logons-requests : (count : ℕ) (r : RequestRows) (m : RequestMove) (logons : List (List (ObjNo × ℕ))) → AreRequests count r → FitsRequests m r logons → AreLogons count r logons → AreLogons count (request_moved m r) logons
-logons-requests count r m logons rows fits h = record { sized = h.sized; once = h.once; waits = λ u s some. still_awaited count r m logons u s rows fits (spares_logged r m logons u s fits some) (h.waits u s some) }
+pub logons-requests : (count : ℕ) (r : RequestRows) (m : RequestMove) (logons : List (List (ObjNo × ℕ)))
+    → AreRequests count r → FitsRequests m r logons → AreLogons count r logons
+    → AreLogons count (request_moved m r) logons
+logons-requests count r m logons rows fits h = record {
+  sized = h.sized;
+  once = h.once;
+  waits =
+      λ u s some. still_awaited count r m logons u s rows fits (spares_logged r m logons u s fits some)
+      (h.waits u s some);
+}
 
 -- none at boot
 pub none_logged : {B : Type 0} (u : ObjNo) (s : ℕ) (bs : List B) → times_logged (map (λ _. []) bs) u s ≡ 0

@@ -12,7 +12,10 @@ use Rattle.move_laws.proofs.References.Counts.{is_some-with}
 use Rattle.move_laws.proofs.RowLaws.Threads.{length-with_row, map_some, was_row}
 
 -- a change of a row that leaves the thread's process
-pub memories-with_row : (threads : List (Option ThreadRow)) (t : ObjNo) (f : ThreadRow → ThreadRow) (memories : List (Option (List ℕ))) → ((row : ThreadRow) → get_or threads t.0 None ≡ Some row → (f row).process ≡ row.process) → AreMemories threads memories → AreMemories (with_row threads t f) memories
+pub memories-with_row : (threads : List (Option ThreadRow)) (t : ObjNo) (f : ThreadRow → ThreadRow)
+    (memories : List (Option (List ℕ)))
+    → ((row : ThreadRow) → get_or threads t.0 None ≡ Some row → (f row).process ≡ row.process)
+    → AreMemories threads memories → AreMemories (with_row threads t f) memories
 memories-with_row threads t f memories keeps h = record {
   sized = h.sized ∙ sym (length-with_row threads t f);
   bytes = h.bytes;
@@ -25,7 +28,10 @@ length-filled : (at long byte : ℕ) (bytes : List ℕ) → at + long ≤ length
 length-filled at long byte bytes within = simp (length-append, length-take, length-drop, length-replicate) (omega arith)
 
 -- a process's memory changes, which has as many bytes as before
-pub memories-changed : (threads : List (Option ThreadRow)) (memories : List (Option (List ℕ))) (p : ObjNo) (f : List ℕ → List ℕ) → ((bytes : List ℕ) → length bytes ≡ 1024 → length (f bytes) ≡ 1024) → AreMemories threads memories → AreMemories threads (with_memory memories p f)
+pub memories-changed : (threads : List (Option ThreadRow)) (memories : List (Option (List ℕ))) (p : ObjNo)
+    (f : List ℕ → List ℕ)
+    → ((bytes : List ℕ) → length bytes ≡ 1024 → length (f bytes) ≡ 1024) → AreMemories threads memories
+    → AreMemories threads (with_memory memories p f)
 memories-changed threads memories p f keeps h = record {
   sized = length-set memories p.0 _ ∙ h.sized;
   bytes = λ k bytes is. elim (set_either memories p.0 (option_map f (get_or memories p.0 None)) k None) as (λ _. length bytes ≡ 1024) [
@@ -39,5 +45,10 @@ memories-changed threads memories p f keeps h = record {
 }
 
 -- it is filled
-pub memories-filled : (threads : List (Option ThreadRow)) (memories : List (Option (List ℕ))) (p : ObjNo) (at long byte : ℕ) → at + long ≤ 1024 → AreMemories threads memories → AreMemories threads (with_memory memories p (filled at long byte))
-memories-filled threads memories p at long byte within h = memories-changed threads memories p (filled at long byte) (λ bytes long_as. let same = length-filled at long byte bytes (omega arith) in omega arith) h
+pub memories-filled : (threads : List (Option ThreadRow)) (memories : List (Option (List ℕ))) (p : ObjNo)
+    (at long byte : ℕ)
+    → at + long ≤ 1024 → AreMemories threads memories
+    → AreMemories threads (with_memory memories p (filled at long byte))
+memories-filled threads memories p at long byte within h =
+    memories-changed threads memories p (filled at long byte)
+    (λ bytes long_as. let same = length-filled at long byte bytes (omega arith) in omega arith) h

@@ -34,7 +34,8 @@ pub sent_is : (u : ObjNo) (s : ℕ) (client : ObjNo) (way : Way) → 0 < (if is_
 sent_is u s client (Async status) some = by (is_sent u s client (Async status)) refl some
   where
     by : (b : Bool) → is_sent u s client (Async status) ≡ b → 0 < (if b then 1 else 0) → (client ≡ u) × (Async status ≡ Async s)
-    by true is some = let parts = and_parts (client.0 == u.0) (status == s) is in (same_object client u (eqb-true client.0 u.0 parts.0), ap (λ (n : ℕ). Async n) (eqb-true status s parts.1))
+    by true is some = let parts = and_parts (client.0 == u.0) (status == s) is in
+        (same_object client u (eqb-true client.0 u.0 parts.0), ap (λ (n : ℕ). Async n) (eqb-true status s parts.1))
     by false is some = absurd (omega arith)
 sent_is u s client Sync some = absurd (omega arith)
 sent_is u s client Disconnect some = absurd (omega arith)
@@ -49,7 +50,11 @@ called_is u client (Async status) some = absurd (omega arith)
 called_is u client Disconnect some = absurd (omega arith)
 
 -- a message that disconnects a session comes while one may be
-room_for : (S : State) (u : ObjNo) (way : Way) → FitsWay u way S → sessions_used S.references.threads S.serving.servers S.serving.messages.outstanding ≤ sessions_there S.serving.servers → sessions_used S.references.threads S.serving.servers S.serving.messages.outstanding + disconnect_bit_of way ≤ sessions_there S.serving.servers
+room_for : (S : State) (u : ObjNo) (way : Way) → FitsWay u way S
+    → sessions_used S.references.threads S.serving.servers S.serving.messages.outstanding
+    ≤ sessions_there S.serving.servers
+    → sessions_used S.references.threads S.serving.servers S.serving.messages.outstanding + disconnect_bit_of way
+    ≤ sessions_there S.serving.servers
 room_for S u (Async s) fits few = omega arith
 room_for S u Sync fits few = omega arith
 room_for S u Disconnect fits few = omega arith
@@ -58,22 +63,32 @@ abbrev accepted_row : State → Slots → MsgRow → Message
 accepted_row S slots row = record { number = next_number S.serving.messages; slots = slots; row = row }
 
 -- a message is accepted
-pub messages-accepted : (S : State) (slots : Slots) (row : MsgRow) → MayAccept S row → AreMessages (IsUntold S.synchronization.requests S.synchronization.logons) S.references.threads S.serving.servers S.serving.messages → AreMessages (IsUntold S.synchronization.requests S.synchronization.logons) S.references.threads S.serving.servers (added S.serving.messages slots row)
+pub messages-accepted : (S : State) (slots : Slots) (row : MsgRow) → MayAccept S row
+    → AreMessages (IsUntold S.synchronization.requests S.synchronization.logons) S.references.threads S.serving.servers
+    S.serving.messages
+    → AreMessages (IsUntold S.synchronization.requests S.synchronization.logons) S.references.threads S.serving.servers
+    (added S.serving.messages slots row)
 messages-accepted S slots row may h = record {
   objects = h.objects;
   rising = rising-push S.serving.messages.outstanding new (λ x there. let a = h.given x there in omega arith) h.rising;
-  given = λ message there. elim (Contains-push_cases S.serving.messages.outstanding new message there) as (λ _. message.number.0 ≤ S.serving.messages.accepted + 1) [
-    | inl was ↦ let a = h.given message was in omega arith
-    | inr own ↦ let a : message.number.0 ≡ S.serving.messages.accepted + 1 = ap (λ (z : Message). z.number.0) (sym own) in omega arith
-  ];
-  sessions = λ message there. elim (Contains-push_cases S.serving.messages.outstanding new message there) as (λ _. IsSession S.serving.servers message.row.session) [
-    | inl was ↦ h.sessions message was
-    | inr own ↦ subst (λ (z : Message). IsSession S.serving.servers z.row.session) own may.known
-  ];
-  clients = λ message there. elim (Contains-push_cases S.serving.messages.outstanding new message there) as (λ _. is_some (get_or S.references.threads message.row.client.0 None) ≡ true) [
-    | inl was ↦ h.clients message was
-    | inr own ↦ subst (λ (z : Message). is_some (get_or S.references.threads z.row.client.0 None) ≡ true) own may.thread
-  ];
+  given =
+      λ message there. elim (Contains-push_cases S.serving.messages.outstanding new message there) as
+      (λ _. message.number.0 ≤ S.serving.messages.accepted + 1) [
+        | inl was ↦ let a = h.given message was in omega arith
+        | inr own ↦ let a : message.number.0 ≡ S.serving.messages.accepted + 1 = ap (λ (z : Message). z.number.0) (sym own) in omega arith
+      ];
+  sessions =
+      λ message there. elim (Contains-push_cases S.serving.messages.outstanding new message there) as
+      (λ _. IsSession S.serving.servers message.row.session) [
+        | inl was ↦ h.sessions message was
+        | inr own ↦ subst (λ (z : Message). IsSession S.serving.servers z.row.session) own may.known
+      ];
+  clients =
+      λ message there. elim (Contains-push_cases S.serving.messages.outstanding new message there) as
+      (λ _. is_some (get_or S.references.threads message.row.client.0 None) ≡ true) [
+        | inl was ↦ h.clients message was
+        | inr own ↦ subst (λ (z : Message). is_some (get_or S.references.threads z.row.client.0 None) ≡ true) own may.thread
+      ];
   sent = λ u s. let a = sent_more u s in let b = h.sent u s in let c = if_le (is_sent u s row.client row.way) 1 in
       elim (cases_lt 0 (sent_names u s new)) as (λ _. times_sent (added S.serving.messages slots row).outstanding u s ≤ 1) [
         | inl one ↦ let none = (fits_sent u s one).1 in omega arith
@@ -102,22 +117,33 @@ messages-accepted S slots row may h = record {
     new : Message
     new = accepted_row S slots row
 
-    sent_more : (u : ObjNo) (s : ℕ) → times_sent (added S.serving.messages slots row).outstanding u s ≡ times_sent S.serving.messages.outstanding u s + sent_names u s new
+    sent_more : (u : ObjNo) (s : ℕ) → times_sent (added S.serving.messages slots row).outstanding u s
+        ≡ times_sent S.serving.messages.outstanding u s + sent_names u s new
     sent_more u s = let a = total-append (sent_names u s) S.serving.messages.outstanding (new ∷ []) in omega arith
 
-    called_more : (u : ObjNo) → times_called (added S.serving.messages slots row).outstanding u ≡ times_called S.serving.messages.outstanding u + call_names u new
+    called_more : (u : ObjNo) → times_called (added S.serving.messages slots row).outstanding u
+        ≡ times_called S.serving.messages.outstanding u + call_names u new
     called_more u = let a = total-append (call_names u) S.serving.messages.outstanding (new ∷ []) in omega arith
 
-    fits_sent : (u : ObjNo) (s : ℕ) → 0 < sent_names u s new → IsUntold S.synchronization.requests S.synchronization.logons u s × (times_sent S.serving.messages.outstanding u s ≡ 0)
-    fits_sent u s one = let own = sent_is u s row.client row.way one in subst (λ (v : ObjNo). FitsWay v (Async s) S) own.0 (subst (λ (way : Way). FitsWay row.client way S) own.1 may.way)
+    fits_sent : (u : ObjNo) (s : ℕ) → 0 < sent_names u s new
+        → IsUntold S.synchronization.requests S.synchronization.logons u s
+        × (times_sent S.serving.messages.outstanding u s ≡ 0)
+    fits_sent u s one = let own = sent_is u s row.client row.way one in
+        subst (λ (v : ObjNo). FitsWay v (Async s) S) own.0 (subst (λ (way : Way). FitsWay row.client way S) own.1 may.way)
 
-    fits_called : (u : ObjNo) → 0 < call_names u new → (times_called S.serving.messages.outstanding u ≡ 0) × ((thread : ThreadRow) → thread_of S u ≡ Some thread → thread.waiting ≡ waiting.Reply)
-    fits_called u one = let own = called_is u row.client row.way one in subst (λ (v : ObjNo). FitsWay v Sync S) own.0 (subst (λ (way : Way). FitsWay row.client way S) own.1 may.way)
+    fits_called : (u : ObjNo) → 0 < call_names u new → (times_called S.serving.messages.outstanding u ≡ 0)
+        × ((thread : ThreadRow) → thread_of S u ≡ Some thread → thread.waiting ≡ waiting.Reply)
+    fits_called u one = let own = called_is u row.client row.way one in
+        subst (λ (v : ObjNo). FitsWay v Sync S) own.0 (subst (λ (way : Way). FitsWay row.client way S) own.1 may.way)
 
 -- a message changes, but for its session, its client and its way
-module _ (A : ObjNo → ℕ → Type 0) (threads : List (Option ThreadRow)) (servers : ServerRows) (r : MessageRows) (m : MsgNo) (change : MsgRow → MsgRow) (session : (row : MsgRow) → (change row).session ≡ row.session) (client : (row : MsgRow) → (change row).client ≡ row.client) (way : (row : MsgRow) → (change row).way ≡ row.way) where
+module _ (A : ObjNo → ℕ → Type 0) (threads : List (Option ThreadRow)) (servers : ServerRows) (r : MessageRows)
+    (m : MsgNo) (change : MsgRow → MsgRow) (session : (row : MsgRow) → (change row).session ≡ row.session)
+    (client : (row : MsgRow) → (change row).client ≡ row.client) (way : (row : MsgRow) → (change row).way ≡ row.way) where
   -- so does what is read off these
-  pub edited-total : (f : Message → ℕ) → ((message : Message) → f (record message { row = change message.row }) ≡ f message) → total f (map (edited m change) r.outstanding) ≡ total f r.outstanding
+  pub edited-total : (f : Message → ℕ)
+      → ((message : Message) → f (record message { row = change message.row }) ≡ f message)
+      → total f (map (edited m change) r.outstanding) ≡ total f r.outstanding
   edited-total f keeps = total-map f f (edited m change) r.outstanding (λ x. edited-value f m change x (keeps x))
 
   pub messages-edited : AreMessages A threads servers r → AreMessages A threads servers (with_edited r m change)
@@ -126,13 +152,19 @@ module _ (A : ObjNo → ℕ → Type 0) (threads : List (Option ThreadRow)) (ser
     rising = rising-map (edited m change) r.outstanding (λ x. edited-value (λ (z : Message). z.number) m change x refl) h.rising;
     given = λ message there.
         let was = contains_map (edited m change) r.outstanding message there in
-        subst (λ (n : MsgNo). n.0 ≤ r.accepted) (sym (edited-value (λ (z : Message). z.number) m change was.0 refl) ∙ ap (λ (z : Message). z.number) was.2) (h.given was.0 was.1);
+        subst (λ (n : MsgNo). n.0 ≤ r.accepted)
+        (sym (edited-value (λ (z : Message). z.number) m change was.0 refl) ∙ ap (λ (z : Message). z.number) was.2)
+        (h.given was.0 was.1);
     sessions = λ message there.
         let was = contains_map (edited m change) r.outstanding message there in
-        subst (λ (s : ObjNo). IsSession servers s) (sym (edited-value (λ (z : Message). z.row.session) m change was.0 (session was.0.row)) ∙ ap (λ (z : Message). z.row.session) was.2) (h.sessions was.0 was.1);
+        subst (λ (s : ObjNo). IsSession servers s)
+        (sym (edited-value (λ (z : Message). z.row.session) m change was.0 (session was.0.row))
+        ∙ ap (λ (z : Message). z.row.session) was.2) (h.sessions was.0 was.1);
     clients = λ message there.
         let was = contains_map (edited m change) r.outstanding message there in
-        subst (λ (u : ObjNo). is_some (get_or threads u.0 None) ≡ true) (sym (edited-value (λ (z : Message). z.row.client) m change was.0 (client was.0.row)) ∙ ap (λ (z : Message). z.row.client) was.2) (h.clients was.0 was.1);
+        subst (λ (u : ObjNo). is_some (get_or threads u.0 None) ≡ true)
+        (sym (edited-value (λ (z : Message). z.row.client) m change was.0 (client was.0.row))
+        ∙ ap (λ (z : Message). z.row.client) was.2) (h.clients was.0 was.1);
     sent = λ u s. let a = sent u s in let b = h.sent u s in omega arith;
     awaited = λ u s some. let a = sent u s in h.awaited u s (omega arith);
     called = λ u. let a = called u in let b = h.called u in omega arith;
@@ -143,13 +175,18 @@ module _ (A : ObjNo → ℕ → Type 0) (threads : List (Option ThreadRow)) (ser
   }
     where
       sent : (u : ObjNo) (s : ℕ) → times_sent (map (edited m change) r.outstanding) u s ≡ times_sent r.outstanding u s
-      sent u s = edited-total (sent_names u s) (λ x. ap (λ (v : ObjNo). if is_sent u s v (change x.row).way then 1 else 0) (client x.row) ∙ ap (λ (w : Way). if is_sent u s x.row.client w then 1 else 0) (way x.row))
+      sent u s = edited-total (sent_names u s)
+          (λ x. ap (λ (v : ObjNo). if is_sent u s v (change x.row).way then 1 else 0) (client x.row)
+          ∙ ap (λ (w : Way). if is_sent u s x.row.client w then 1 else 0) (way x.row))
 
       called : (u : ObjNo) → times_called (map (edited m change) r.outstanding) u ≡ times_called r.outstanding u
-      called u = edited-total (call_names u) (λ x. ap (λ (v : ObjNo). if is_called u v (change x.row).way then 1 else 0) (client x.row) ∙ ap (λ (w : Way). if is_called u x.row.client w then 1 else 0) (way x.row))
+      called u = edited-total (call_names u) (λ x. ap (λ (v : ObjNo). if is_called u v (change x.row).way then 1 else 0)
+          (client x.row) ∙ ap (λ (w : Way). if is_called u x.row.client w then 1 else 0) (way x.row))
 
 -- a message is taken
-pub messages-taken : (A : ObjNo → ℕ → Type 0) (threads : List (Option ThreadRow)) (servers : ServerRows) (r : MessageRows) (o : ObjNo) → AreMessages A threads servers r → AreMessages A threads servers (after_take r o)
+pub messages-taken : (A : ObjNo → ℕ → Type 0) (threads : List (Option ThreadRow)) (servers : ServerRows)
+    (r : MessageRows) (o : ObjNo)
+    → AreMessages A threads servers r → AreMessages A threads servers (after_take r o)
 messages-taken A threads servers r o h = by (next_of r o)
   where
     by : (m : Option MsgNo) → AreMessages A threads servers (taken r m)
@@ -157,7 +194,9 @@ messages-taken A threads servers r o h = by (next_of r o)
     by (Some m) = messages-edited A threads servers r m taken_row (λ row. refl) (λ row. refl) (λ row. refl) h
 
 -- a message is finished
-pub messages-finished : (A : ObjNo → ℕ → Type 0) (threads : List (Option ThreadRow)) (servers : ServerRows) (r : MessageRows) (m : MsgNo) → AreMessages A threads servers r → AreMessages A threads servers (after_finish r m)
+pub messages-finished : (A : ObjNo → ℕ → Type 0) (threads : List (Option ThreadRow)) (servers : ServerRows)
+    (r : MessageRows) (m : MsgNo)
+    → AreMessages A threads servers r → AreMessages A threads servers (after_finish r m)
 messages-finished A threads servers r m h = record {
   objects = h.objects;
   rising = rising-filter others r.outstanding h.rising;

@@ -24,8 +24,14 @@ use Rattle.move_laws.proofs.References.Same.{same_object, same_self}
 use Rattle.move_laws.proofs.RowLaws.Threads.{was_row}
 
 -- other rows of threads: each client is there, whoever waits for an end waits still, and no more sessions are used, nor more threads there
-pub messages-threads : (A : ObjNo → ℕ → Type 0) (threads other : List (Option ThreadRow)) (servers : ServerRows) (r : MessageRows) → ((message : Message) → Contains r.outstanding message → is_some (get_or threads message.row.client.0 None) ≡ true → is_some (get_or other message.row.client.0 None) ≡ true)
-    → ((u : ObjNo) (row : ThreadRow) → 0 < times_called r.outstanding u → get_or other u.0 None ≡ Some row → row.stage ≡ Live → row.waiting ≡ waiting.Reply) → sessions_used other servers r.outstanding ≤ sessions_there servers → total thread_bit other ≤ THREADS → total numbers_left other ≤ total numbers_left threads → AreMessages A threads servers r → AreMessages A other servers r
+pub messages-threads : (A : ObjNo → ℕ → Type 0) (threads other : List (Option ThreadRow)) (servers : ServerRows)
+    (r : MessageRows)
+    → ((message : Message) → Contains r.outstanding message → is_some (get_or threads message.row.client.0 None) ≡ true
+    → is_some (get_or other message.row.client.0 None) ≡ true)
+    → ((u : ObjNo) (row : ThreadRow) → 0 < times_called r.outstanding u → get_or other u.0 None ≡ Some row → row.stage
+    ≡ Live → row.waiting ≡ waiting.Reply) → sessions_used other servers r.outstanding ≤ sessions_there servers
+    → total thread_bit other ≤ THREADS → total numbers_left other ≤ total numbers_left threads
+    → AreMessages A threads servers r → AreMessages A other servers r
 messages-threads A threads other servers r clients replies few threads_few left h = record {
   objects = h.objects;
   rising = h.rising;
@@ -46,22 +52,36 @@ some_bit f None = refl
 some_bit f (Some row) = refl
 
 -- a row changes, which leaves a wait for an end as it is
-pub messages-with_row : (A : ObjNo → ℕ → Type 0) (threads : List (Option ThreadRow)) (servers : ServerRows) (r : MessageRows) (u : ObjNo) (f : ThreadRow → ThreadRow)
-    → ((row : ThreadRow) → get_or threads u.0 None ≡ Some row → 0 < times_called r.outstanding u → (row.stage ≡ Live → row.waiting ≡ waiting.Reply) → (f row).stage ≡ Live → (f row).waiting ≡ waiting.Reply)
-    → sessions_used (with_row threads u f) servers r.outstanding ≤ sessions_there servers → total numbers_left (with_row threads u f) ≤ total numbers_left threads → AreMessages A threads servers r → AreMessages A (with_row threads u f) servers r
+pub messages-with_row : (A : ObjNo → ℕ → Type 0) (threads : List (Option ThreadRow)) (servers : ServerRows)
+    (r : MessageRows) (u : ObjNo) (f : ThreadRow → ThreadRow)
+    → ((row : ThreadRow) → get_or threads u.0 None ≡ Some row → 0 < times_called r.outstanding u
+    → (row.stage ≡ Live → row.waiting ≡ waiting.Reply) → (f row).stage ≡ Live → (f row).waiting ≡ waiting.Reply)
+    → sessions_used (with_row threads u f) servers r.outstanding ≤ sessions_there servers
+    → total numbers_left (with_row threads u f) ≤ total numbers_left threads → AreMessages A threads servers r
+    → AreMessages A (with_row threads u f) servers r
 messages-with_row A threads servers r u f waits few left h = messages-threads A threads (with_row threads u f) servers r
     (λ message among there. is_some-with_row threads u f message.row.client ∙ there)
-    (λ v row called is. was_row threads u f (λ (k : ℕ) (y : ThreadRow). 0 < times_called r.outstanding (record { 0 = k }) → y.stage ≡ Live → y.waiting ≡ waiting.Reply)
+    (λ v row called is. was_row threads u f
+    (λ (k : ℕ) (y : ThreadRow). 0 < times_called r.outstanding (record { 0 = k }) → y.stage ≡ Live → y.waiting
+    ≡ waiting.Reply)
     (λ old was now. waits old was now (h.replies u old now was)) (λ k old was now. h.replies (record { 0 = k }) old now was) v.0 row is called) few
-    (let a = total-with thread_bit (option_map f) None threads u.0 refl in let b = some_bit f (get_or threads u.0 None) in let c = h.threads_few in omega arith) left h
+    (let a = total-with thread_bit (option_map f) None threads u.0 refl in
+    let b = some_bit f (get_or threads u.0 None) in let c = h.threads_few in omega arith) left h
 
 -- a row changes that counts no more than before
-fewer_map : (q : Option ThreadRow → ℕ) (f : ThreadRow → ThreadRow) (x : Option ThreadRow) → ((row : ThreadRow) → x ≡ Some row → q (Some (f row)) ≤ q (Some row)) → q (option_map f x) ≤ q x
+fewer_map : (q : Option ThreadRow → ℕ) (f : ThreadRow → ThreadRow) (x : Option ThreadRow)
+    → ((row : ThreadRow) → x ≡ Some row → q (Some (f row)) ≤ q (Some row)) → q (option_map f x) ≤ q x
 fewer_map q f None fewer = omega arith
 fewer_map q f (Some row) fewer = fewer row refl
 
-pub fewer-with_row : (q : Option ThreadRow → ℕ) (threads : List (Option ThreadRow)) (u : ObjNo) (f : ThreadRow → ThreadRow) → ((row : ThreadRow) → get_or threads u.0 None ≡ Some row → q (Some (f row)) ≤ q (Some row)) → total q (with_row threads u f) ≤ total q threads
-fewer-with_row q threads u f fewer = let a = total-with q (option_map f) None threads u.0 refl in let b = fewer_map q f (get_or threads u.0 None) fewer in omega arith
+pub fewer-with_row : (q : Option ThreadRow → ℕ) (threads : List (Option ThreadRow)) (u : ObjNo)
+    (f : ThreadRow → ThreadRow)
+    → ((row : ThreadRow) → get_or threads u.0 None ≡ Some row → q (Some (f row)) ≤ q (Some row))
+    → total q (with_row threads u f) ≤ total q threads
+fewer-with_row q threads u f fewer =
+    let a = total-with q (option_map f) None threads u.0 refl in
+    let b = fewer_map q f (get_or threads u.0 None) fewer in
+    omega arith
 
 -- an instruction's last step is one
 pub begun_one : (p : Option Part) → begun p ≤ 1
@@ -75,22 +95,34 @@ pub record KeepsMessages (f : ThreadRow → ThreadRow) : Type 0 where
   pub sends : (row : ThreadRow) → is_sending (f row).part ≤ is_sending row.part
   pub left : (row : ThreadRow) → numbers_left (Some (f row)) ≤ numbers_left (Some row)
 
-pub messages-kept : (A : ObjNo → ℕ → Type 0) (threads : List (Option ThreadRow)) (servers : ServerRows) (r : MessageRows) (u : ObjNo) (f : ThreadRow → ThreadRow) → KeepsMessages f → AreMessages A threads servers r → AreMessages A (with_row threads u f) servers r
-messages-kept A threads servers r u f keeps h = messages-with_row A threads servers r u f (λ row is called was live. keeps.waits row live ∙ was (keeps.live row live))
-    (let a = fewer-with_row sending_bit threads u f (λ row is. keeps.sends row) in let b = h.few in omega arith) (fewer-with_row numbers_left threads u f (λ row is. keeps.left row)) h
+pub messages-kept : (A : ObjNo → ℕ → Type 0) (threads : List (Option ThreadRow)) (servers : ServerRows)
+    (r : MessageRows) (u : ObjNo) (f : ThreadRow → ThreadRow)
+    → KeepsMessages f → AreMessages A threads servers r → AreMessages A (with_row threads u f) servers r
+messages-kept A threads servers r u f keeps h =
+    messages-with_row A threads servers r u f
+    (λ row is called was live. keeps.waits row live ∙ was (keeps.live row live))
+    (let a = fewer-with_row sending_bit threads u f (λ row is. keeps.sends row) in let b = h.few in omega arith)
+    (fewer-with_row numbers_left threads u f (λ row is. keeps.left row)) h
 
 -- a thread's row goes that no message names
-pub messages-swept : (A : ObjNo → ℕ → Type 0) (threads : List (Option ThreadRow)) (servers : ServerRows) (r : MessageRows) (o : ObjNo) → total (message_names o) r.outstanding ≡ 0 → AreMessages A threads servers r → AreMessages A (set threads o.0 None) servers r
+pub messages-swept : (A : ObjNo → ℕ → Type 0) (threads : List (Option ThreadRow)) (servers : ServerRows)
+    (r : MessageRows) (o : ObjNo)
+    → total (message_names o) r.outstanding ≡ 0 → AreMessages A threads servers r
+    → AreMessages A (set threads o.0 None) servers r
 messages-swept A threads servers r o unnamed h = messages-threads A threads (set threads o.0 None) servers r
     (λ message among there. ap is_some (get_or-set_other threads o.0 message.row.client.0 None None (apart message among)) ∙ there)
-    (λ v row called is. h.replies v row called (set_item (λ (x : Option ThreadRow). x ≡ Some row → get_or threads v.0 None ≡ Some row) threads o.0 v.0 None None (λ at e. absurd (cc)) (λ e. e) is))
-    (let a = fewer sending_bit refl in let b = h.few in omega arith) (let a = fewer thread_bit refl in let b = h.threads_few in omega arith) (fewer numbers_left refl) h
+    (λ v row called is. h.replies v row called
+    (set_item (λ (x : Option ThreadRow). x ≡ Some row → get_or threads v.0 None ≡ Some row) threads o.0 v.0 None None
+    (λ at e. absurd (cc)) (λ e. e) is))
+    (let a = fewer sending_bit refl in let b = h.few in omega arith)
+    (let a = fewer thread_bit refl in let b = h.threads_few in omega arith) (fewer numbers_left refl) h
   where
     apart : (message : Message) → Contains r.outstanding message → message.row.client.0 ≡ o.0 → ⊥
     apart message among at =
         let named : message_names o (get_or r.outstanding among.0 message) ≡ message_names o message = ap (message_names o) among.2 in
         let most = total_at_least (message_names o) r.outstanding among.0 message among.1 in
-        let one = subst (λ (x : ObjNo). message_names x message ≡ 0) (sym (same_object message.row.client o at)) (let a : message_names o message ≡ 0 = omega arith in a) in
+        let one = subst (λ (x : ObjNo). message_names x message ≡ 0) (sym (same_object message.row.client o at))
+        (let a : message_names o message ≡ 0 = omega arith in a) in
         let self = same_self message.row.client in omega arith
 
     fewer : (q : Option ThreadRow → ℕ) → q None ≡ 0 → total q (set threads o.0 None) ≤ total q threads
@@ -100,7 +132,10 @@ messages-swept A threads servers r o unnamed h = messages-threads A threads (set
     ]
 
 -- other rows of requests and logons, in which the statuses of messages are awaited
-pub messages-awaited : (A B : ObjNo → ℕ → Type 0) (threads : List (Option ThreadRow)) (servers : ServerRows) (r : MessageRows) → ((u : ObjNo) (s : ℕ) → 0 < times_sent r.outstanding u s → A u s → B u s) → AreMessages A threads servers r → AreMessages B threads servers r
+pub messages-awaited : (A B : ObjNo → ℕ → Type 0) (threads : List (Option ThreadRow)) (servers : ServerRows)
+    (r : MessageRows)
+    → ((u : ObjNo) (s : ℕ) → 0 < times_sent r.outstanding u s → A u s → B u s) → AreMessages A threads servers r
+    → AreMessages B threads servers r
 messages-awaited A B threads servers r still h = record {
   objects = h.objects;
   rising = h.rising;
@@ -117,7 +152,12 @@ messages-awaited A B threads servers r still h = record {
 }
 
 -- other rows of sessions, of which no more are used
-pub messages-sessions : (A : ObjNo → ℕ → Type 0) (threads : List (Option ThreadRow)) (servers new : ServerRows) (r : MessageRows) → ((s : ObjNo) → IsSession servers s → IsSession new s) → sessions_used threads new r.outstanding ≤ sessions_there new → numbers_used threads new r ≤ 2 * THREAD_INSTRUCTIONS * THREADS → AreMessages A threads servers r → AreMessages A threads new r
+pub messages-sessions : (A : ObjNo → ℕ → Type 0) (threads : List (Option ThreadRow)) (servers new : ServerRows)
+    (r : MessageRows)
+    → ((s : ObjNo) → IsSession servers s → IsSession new s)
+    → sessions_used threads new r.outstanding ≤ sessions_there new
+    → numbers_used threads new r ≤ 2 * THREAD_INSTRUCTIONS * THREADS → AreMessages A threads servers r
+    → AreMessages A threads new r
 messages-sessions A threads servers new r known few numbered h = record {
   objects = h.objects;
   rising = h.rising;

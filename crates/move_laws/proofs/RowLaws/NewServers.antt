@@ -43,7 +43,9 @@ pub record MayBeSession (objects : ℕ) (threads : List (Option ThreadRow)) (own
   pub server : IsServer r o
 
 module _ (spent : ThreadRow → Bool) (objects : ℕ) (threads : List (Option ThreadRow)) (locks : LockRows) (owned : List (List ObjNo)) where
-  pub servers-join : (r : ServerRows) (s o : ObjNo) (slots : Slots) (u : ObjNo) → MayBeSession objects threads owned r s o → AreServers spent objects threads locks owned r → AreServers spent objects threads locks owned (after_add_session r s o slots u)
+  pub servers-join : (r : ServerRows) (s o : ObjNo) (slots : Slots) (u : ObjNo)
+      → MayBeSession objects threads owned r s o → AreServers spent objects threads locks owned r
+      → AreServers spent objects threads locks owned (after_add_session r s o slots u)
   servers-join r s o slots u may h = record {
     servers_sized = length-set r.servers s.0 _ ∙ h.servers_sized;
     sessions_sized = length-set r.sessions s.0 _ ∙ h.sessions_sized;
@@ -53,7 +55,9 @@ module _ (spent : ThreadRow → Bool) (objects : ℕ) (threads : List (Option Th
     once = h.once;
     closing = λ k row x is dead some. ap closes (server_there x (owned_apart (record { 0 = k }) x some)) ∙ h.closing k row x is dead some;
     none = h.none;
-    unlinked = λ x is. let apart = server_apart x is in let was = h.unlinked x (sym (ap is_some (server_there x apart)) ∙ is) in (was.0, session_there x apart ∙ was.1);
+    unlinked =
+        λ x is. let apart = server_apart x is in let was = h.unlinked x (sym (ap is_some (server_there x apart)) ∙ is) in
+        (was.0, session_there x apart ∙ was.1);
     unlocked = λ x is. h.unlocked x (sym (ap is_some (server_there x (server_apart x is))) ∙ is);
     sessions = λ y x at. elim (cases_eq y.0 s.0) as (λ _. IsServer new x) [
       | inl same ↦
@@ -69,7 +73,8 @@ module _ (spent : ThreadRow → Bool) (objects : ℕ) (threads : List (Option Th
       | inl at ↦ elim (cases_eq y.0 s.0) as (λ _. server_of new y ≡ Some x) [
         | inl same ↦ ap link_of (session_here y same) ∙ ap Some (same_object o x at)
         | inr apart ↦
-            let now : linked_at new x ≡ linked_at r o ++ s ∷ [] = ap (λ (n : ℕ). get_or new.linked n []) (sym at) ∙ get_or-set_same r.linked o.0 (linked_at r o ++ s ∷ []) [] linked_inside in
+            let now : linked_at new x ≡ linked_at r o ++ s ∷ [] = ap (λ (n : ℕ). get_or new.linked n []) (sym at)
+            ∙ get_or-set_same r.linked o.0 (linked_at r o ++ s ∷ []) [] linked_inside in
             let was = h.linked y o (push_holds s y (linked_at r o) (ap (holds y) (sym now) ∙ listed) apart) in
             ap link_of (session_there y apart) ∙ was ∙ ap Some (same_object o x at)
       ]
@@ -78,7 +83,10 @@ module _ (spent : ThreadRow → Bool) (objects : ℕ) (threads : List (Option Th
           ap link_of (session_there y (unlinked_apart y x was)) ∙ was
     ];
     sessions_made = λ y past. let made = may.made in session_there y (λ e. absurd (omega arith)) ∙ h.sessions_made y past;
-    linked_made = λ x past. let made = may.server_made in get_or-set_other r.linked o.0 x.0 (linked_at r o ++ s ∷ []) [] (λ e. absurd (omega arith)) ∙ h.linked_made x past;
+    linked_made =
+        λ x past. let made = may.server_made in
+        get_or-set_other r.linked o.0 x.0 (linked_at r o ++ s ∷ []) [] (λ e. absurd (omega arith))
+        ∙ h.linked_made x past;
   }
     where
       new : ServerRows
@@ -94,14 +102,18 @@ module _ (spent : ThreadRow → Bool) (objects : ℕ) (threads : List (Option Th
       session_there x apart = get_or-set_other r.sessions s.0 x.0 (Some (new_session o slots u)) None apart
 
       session_here : (y : ObjNo) → y.0 ≡ s.0 → session_at new y ≡ Some (new_session o slots u)
-      session_here y at = ap (λ (n : ℕ). get_or new.sessions n None) at ∙ get_or-set_same r.sessions s.0 (Some (new_session o slots u)) None (let a = may.made in let b = may.few in let c = h.sessions_sized in omega arith)
+      session_here y at = ap (λ (n : ℕ). get_or new.sessions n None) at
+          ∙ get_or-set_same r.sessions s.0 (Some (new_session o slots u)) None
+          (let a = may.made in let b = may.few in let c = h.sessions_sized in omega arith)
 
       owned_apart : (t x : ObjNo) → 0 < times_owned owned t x → x.0 ≢ s.0
       owned_apart t x some e = let none : times_owned owned t x ≡ 0 = ap (times_owned owned t) (same_object x s e) ∙ may.unowned t in absurd (omega arith)
 
       server_apart : (x : ObjNo) → IsServer new x → x.0 ≢ s.0
       server_apart x is e =
-          let gone : server_at new x ≡ None = ap (λ (n : ℕ). get_or new.servers n None) e ∙ get_or-set_same r.servers s.0 None None (let a = may.made in let b = may.few in let c = h.servers_sized in omega arith) in
+          let gone : server_at new x ≡ None = ap (λ (n : ℕ). get_or new.servers n None) e
+          ∙ get_or-set_same r.servers s.0 None None
+          (let a = may.made in let b = may.few in let c = h.servers_sized in omega arith) in
           let none : is_some (server_at new x) ≡ false = ap is_some gone in cc
 
       unlinked_apart : (y x : ObjNo) → server_of r y ≡ Some x → y.0 ≢ s.0
@@ -115,7 +127,9 @@ pub record MayBeServer (objects : ℕ) (threads : List (Option ThreadRow)) (lock
   pub unlocked : owner_at locks o ≡ None
 
 module _ (spent : ThreadRow → Bool) (objects : ℕ) (threads : List (Option ThreadRow)) (locks : LockRows) (owned : List (List ObjNo)) where
-  servers-added : (r : ServerRows) (o : ObjNo) (row : ServerRow) → MayBeServer objects threads locks owned o → AreServers spent objects threads locks owned r → AreServers spent objects threads locks owned (record r { servers = slice_set r.servers o.0 (Some row) })
+  servers-added : (r : ServerRows) (o : ObjNo) (row : ServerRow) → MayBeServer objects threads locks owned o
+      → AreServers spent objects threads locks owned r
+      → AreServers spent objects threads locks owned (record r { servers = slice_set r.servers o.0 (Some row) })
   servers-added r o row may h = record {
     servers_sized = length-set r.servers o.0 _ ∙ h.servers_sized;
     sessions_sized = h.sessions_sized;
@@ -150,10 +164,19 @@ module _ (spent : ThreadRow → Bool) (objects : ℕ) (threads : List (Option Th
       owned_apart t x some e = let none : times_owned owned t x ≡ 0 = ap (times_owned owned t) (same_object x o e) ∙ may.unowned t in absurd (omega arith)
 
   -- it was no session before
-  pub unmade_session : (r : ServerRows) (o u : ObjNo) → objects ≤ o.0 → AreServers spent objects threads locks owned r → after_add_server r o u ≡ record r { servers = slice_set r.servers o.0 (Some (record { owner = u; is_closing = false })) }
+  pub unmade_session : (r : ServerRows) (o u : ObjNo) → objects ≤ o.0 → AreServers spent objects threads locks owned r
+      → after_add_server r o u ≡ record r {
+        servers = slice_set r.servers o.0
+            (Some (record { owner = u; is_closing = false }));
+      }
   unmade_session r o u past h =
       let own : slice_set r.sessions o.0 None ≡ r.sessions = ap (slice_set r.sessions o.0) (sym (h.sessions_made o past)) ∙ set_own r.sessions o.0 None in
-      ap (λ (sessions : List (Option SessionRow)). record r { servers = slice_set r.servers o.0 (Some (record { owner = u; is_closing = false })); sessions = sessions }) own
+      ap (λ (sessions : List (Option SessionRow)). record r
+      { servers = slice_set r.servers o.0 (Some (record { owner = u; is_closing = false })); sessions = sessions }) own
 
-  pub servers-start : (r : ServerRows) (o u : ObjNo) → MayBeServer objects threads locks owned o → AreServers spent objects threads locks owned r → AreServers spent objects threads locks owned (after_add_server r o u)
-  servers-start r o u may h = subst (AreServers spent objects threads locks owned) (sym (unmade_session r o u may.next h)) (servers-added r o (record { owner = u; is_closing = false }) may h)
+  pub servers-start : (r : ServerRows) (o u : ObjNo) → MayBeServer objects threads locks owned o
+      → AreServers spent objects threads locks owned r
+      → AreServers spent objects threads locks owned (after_add_server r o u)
+  servers-start r o u may h =
+      subst (AreServers spent objects threads locks owned) (sym (unmade_session r o u may.next h))
+      (servers-added r o (record { owner = u; is_closing = false }) may h)

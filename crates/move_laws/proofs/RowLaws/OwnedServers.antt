@@ -26,7 +26,10 @@ owned_inside owned t o some = elim (cases_lt t.0 (length owned)) as (λ _. t.0 <
 ]
 
 -- threads own fewer servers
-pub servers-fewer : (spent : ThreadRow → Bool) (objects : ℕ) (threads : List (Option ThreadRow)) (locks : LockRows) (owned other : List (List ObjNo)) (r : ServerRows) → length other ≡ length owned → ((t o : ObjNo) → times_owned other t o ≤ times_owned owned t o) → ((k : ℕ) → get_or owned k [] ≡ [] → get_or other k [] ≡ [])
+pub servers-fewer : (spent : ThreadRow → Bool) (objects : ℕ) (threads : List (Option ThreadRow)) (locks : LockRows)
+    (owned other : List (List ObjNo)) (r : ServerRows)
+    → length other ≡ length owned → ((t o : ObjNo) → times_owned other t o ≤ times_owned owned t o)
+    → ((k : ℕ) → get_or owned k [] ≡ [] → get_or other k [] ≡ [])
     → AreServers spent objects threads locks owned r → AreServers spent objects threads locks other r
 servers-fewer spent objects threads locks owned other r long fewer nothing h = record {
   servers_sized = h.servers_sized;
@@ -54,7 +57,8 @@ pub record MayOwn (spent : ThreadRow → Bool) (threads : List (Option ThreadRow
   pub unowned : (u : ObjNo) → times_owned owned u o ≡ 0
 
 -- who owns something then owned it, or is the thread and owns that server
-owned_then : (owned : List (List ObjNo)) (t o u x : ObjNo) → t.0 < length owned → 0 < times_owned (owned_gain (Own t) o owned) u x → (0 < times_owned owned u x) ⊎ ((t ≡ u) × (o ≡ x))
+owned_then : (owned : List (List ObjNo)) (t o u x : ObjNo) → t.0 < length owned
+    → 0 < times_owned (owned_gain (Own t) o owned) u x → (0 < times_owned owned u x) ⊎ ((t ≡ u) × (o ≡ x))
 owned_then owned t o u x inside some =
     let more = held-holding owned t o u x inside in
     elim (cases_lt 0 (times_owned owned u x)) as (λ _. (0 < times_owned owned u x) ⊎ ((t ≡ u) × (o ≡ x))) [
@@ -65,7 +69,9 @@ owned_then owned t o u x inside some =
       ]
     ]
 
-pub servers-owned : (spent : ThreadRow → Bool) (objects more : ℕ) (threads : List (Option ThreadRow)) (locks : LockRows) (owned : List (List ObjNo)) (r : ServerRows) (t o : ObjNo) → objects ≤ more → MayOwn spent threads owned r t o
+pub servers-owned : (spent : ThreadRow → Bool) (objects more : ℕ) (threads : List (Option ThreadRow)) (locks : LockRows)
+    (owned : List (List ObjNo)) (r : ServerRows) (t o : ObjNo)
+    → objects ≤ more → MayOwn spent threads owned r t o
     → AreServers spent objects threads locks owned r → AreServers spent more threads locks (owned_gain (Own t) o owned) r
 servers-owned spent objects more threads locks owned r t o le may h = record {
   servers_sized = h.servers_sized;
@@ -102,7 +108,12 @@ servers-owned spent objects more threads locks owned r t o le may h = record {
     then u x some = owned_then owned t o u x may.inside some
 
 -- and one less
-pub servers-unowned : (spent : ThreadRow → Bool) (objects : ℕ) (threads : List (Option ThreadRow)) (locks : LockRows) (owned : List (List ObjNo)) (r : ServerRows) (t o : ObjNo) → t.0 < length owned → times_owned owned t o ≡ 1 → AreServers spent objects threads locks owned r → AreServers spent objects threads locks (owned_lose (Own t) o owned) r
-servers-unowned spent objects threads locks owned r t o inside once h = servers-fewer spent objects threads locks owned (owned_lose (Own t) o owned) r (length-set owned t.0 _)
+pub servers-unowned : (spent : ThreadRow → Bool) (objects : ℕ) (threads : List (Option ThreadRow)) (locks : LockRows)
+    (owned : List (List ObjNo)) (r : ServerRows) (t o : ObjNo)
+    → t.0 < length owned → times_owned owned t o ≡ 1 → AreServers spent objects threads locks owned r
+    → AreServers spent objects threads locks (owned_lose (Own t) o owned) r
+servers-unowned spent objects threads locks owned r t o inside once h =
+    servers-fewer spent objects threads locks owned (owned_lose (Own t) o owned) r (length-set owned t.0 _)
     (λ u x. let a = held-not_holding owned t o u x inside once in omega arith)
-    (λ k nothing. set_item (λ (l : List ObjNo). l ≡ []) owned t.0 k (lock.without o (get_or owned t.0 [])) [] (λ at. ap (λ (n : ℕ). lock.without o (get_or owned n [])) (sym at) ∙ ap (lock.without o) nothing) nothing) h
+    (λ k nothing. set_item (λ (l : List ObjNo). l ≡ []) owned t.0 k (lock.without o (get_or owned t.0 [])) []
+    (λ at. ap (λ (n : ℕ). lock.without o (get_or owned n [])) (sym at) ∙ ap (lock.without o) nothing) nothing) h

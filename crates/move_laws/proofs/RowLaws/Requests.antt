@@ -23,38 +23,53 @@ abbrev pub of_status : ObjNo → ℕ → Request
 of_status t s = record { thread = t; status = s }
 
 -- what a device has then is what it is given, or what it had
-pub device_is : (devices : List (Option Request)) (d : ℕ) (new : Option Request) (e : ℕ) (request : Request) → get_or (set devices d new) e None ≡ Some request → ((e ≡ d) × (new ≡ Some request)) ⊎ (get_or devices e None ≡ Some request)
+pub device_is : (devices : List (Option Request)) (d : ℕ) (new : Option Request) (e : ℕ) (request : Request)
+    → get_or (set devices d new) e None ≡ Some request
+    → ((e ≡ d) × (new ≡ Some request)) ⊎ (get_or devices e None ≡ Some request)
 device_is devices d new e request is = elim (set_either devices d new e None) [
   | inl at ↦ inl (at.0, sym at.1 ∙ is)
   | inr other ↦ inr (sym other ∙ is)
 ]
 
 -- a device that has a request after another has none had it before
-pub device_had : (devices : List (Option Request)) (d e : ℕ) (request : Request) → d < length devices → get_or (set devices d None) e None ≡ Some request → (e ≢ d) × (get_or devices e None ≡ Some request)
+pub device_had : (devices : List (Option Request)) (d e : ℕ) (request : Request) → d < length devices
+    → get_or (set devices d None) e None ≡ Some request → (e ≢ d) × (get_or devices e None ≡ Some request)
 device_had devices d e request inside is = elim (cases_eq e d) as (λ _. (e ≢ d) × (get_or devices e None ≡ Some request)) [
-  | inl at ↦ let none : get_or (set devices d None) e None ≡ None = ap (λ (n : ℕ). get_or (set devices d None) n None) at ∙ get_or-set_same devices d None None inside in absurd (cc)
+  | inl at ↦
+      let none : get_or (set devices d None) e None ≡ None = ap (λ (n : ℕ). get_or (set devices d None) n None) at
+      ∙ get_or-set_same devices d None None inside in
+      absurd (cc)
   | inr apart ↦ (apart, sym (get_or-set_other devices d e None None apart) ∙ is)
 ]
 
 -- what a status is written to
-written : (r : RequestRows) (t : ObjNo) (s : ℕ) (value : ℤ) → t.0 < length r.statuses → s < length (get_or r.statuses t.0 []) → int_eq value pending ≡ true → is_pending (record r { statuses = with_status r.statuses t s value }) t s ≡ true
+written : (r : RequestRows) (t : ObjNo) (s : ℕ) (value : ℤ) → t.0 < length r.statuses
+    → s < length (get_or r.statuses t.0 []) → int_eq value pending ≡ true
+    → is_pending (record r { statuses = with_status r.statuses t s value }) t s ≡ true
 written r t s value inside within is = rw (get_or-set_same, get_or-set_same) is
 
 -- a request begins: its status wasn't pending, so no other request has it
 began : (count : ℕ) (r : RequestRows) (d : ℕ) (t : ObjNo) (s : ℕ) (had : Bool) → had ≡ false → MayBegin r d t s → AreRequests count r
-    → AreRequests count (record r { devices = if had then r.devices else set r.devices d (Some (of_status t s)); statuses = with_status r.statuses t s pending })
+    → AreRequests count (record r {
+      devices = if had then r.devices else set r.devices d (Some (of_status t s));
+      statuses = with_status r.statuses t s pending;
+    })
 began count r d t s true is may h = absurd (cc)
 began count r d t s false is may h = record {
   rows = sound-requests r devices (with_status r.statuses t s pending) r.signals (length-set r.statuses t.0 _) refl (sixteen-with_status r t s pending h.rows)
       (λ e request at. elim (device_is r.devices d (Some (of_status t s)) e request at) [
-        | inl here ↦ let own : of_status t s ≡ request = cc in subst (λ (q : Request). (q.thread.0 < length r.signals) × (q.status < 16)) own (may.thread, may.status)
+        | inl here ↦
+            let own : of_status t s ≡ request = cc in
+            subst (λ (q : Request). (q.thread.0 < length r.signals) × (q.status < 16)) own (may.thread, may.status)
         | inr had ↦ h.rows.requests_known e request had
       ]) h.rows;
   sized = h.sized;
   devices = length-set r.devices d _ ∙ h.devices;
   pending = λ e request at. elim (device_is r.devices d (Some (of_status t s)) e request at) as (λ _. is_pending new request.thread request.status ≡ true) [
     | inl here ↦ let own : of_status t s ≡ request = cc in subst (λ (q : Request). is_pending new q.thread q.status ≡ true) own own_pending
-    | inr had ↦ status_item (λ (value : ℤ). int_eq value pending ≡ true) r.statuses t s pending request.thread request.status (λ _ _. refl) (h.pending e request had)
+    | inr had ↦
+        status_item (λ (value : ℤ). int_eq value pending ≡ true) r.statuses t s pending request.thread request.status
+        (λ _ _. refl) (h.pending e request had)
   ];
   apart = λ e f request at other. elim (device_is r.devices d (Some (of_status t s)) e request at) as (λ _. e ≡ f) [
     | inl here ↦ elim (device_is r.devices d (Some (of_status t s)) f request other) as (λ _. e ≡ f) [
@@ -75,7 +90,12 @@ began count r d t s false is may h = record {
     new = record r { devices = devices; statuses = with_status r.statuses t s pending }
 
     own_pending : is_pending new t s ≡ true
-    own_pending = let long = h.rows.statuses_sized in let inside = may.thread in let below = may.status in let sixteen = h.rows.sixteen t.0 inside in written r t s pending (omega arith) (omega arith) refl
+    own_pending =
+        let long = h.rows.statuses_sized in
+        let inside = may.thread in
+        let below = may.status in
+        let sixteen = h.rows.sixteen t.0 inside in
+        written r t s pending (omega arith) (omega arith) refl
 
     free : (e : ℕ) (request : Request) → Some (of_status t s) ≡ Some request → request_at r e ≡ Some request → ⊥
     free e request same had =
@@ -85,10 +105,14 @@ began count r d t s false is may h = record {
         let done = may.done in cc
 
 -- a request is completed: no other request has its status, so the others' stay pending
-completed : (count : ℕ) (r : RequestRows) (d : ℕ) (t : ObjNo) (s : ℕ) (code : ℤ) (signals : List ℕ) → length signals ≡ length r.signals → d < length r.devices → request_at r d ≡ Some (of_status t s) → AreRequests count r
+completed : (count : ℕ) (r : RequestRows) (d : ℕ) (t : ObjNo) (s : ℕ) (code : ℤ) (signals : List ℕ)
+    → length signals ≡ length r.signals → d < length r.devices → request_at r d ≡ Some (of_status t s)
+    → AreRequests count r
     → AreRequests count (record r { devices = set r.devices d None; statuses = with_status r.statuses t s code; signals = signals })
 completed count r d t s code signals long inside own h = record {
-  rows = sound-requests r (set r.devices d None) (with_status r.statuses t s code) signals (length-set r.statuses t.0 _) long (sixteen-with_status r t s code h.rows)
+  rows =
+      sound-requests r (set r.devices d None) (with_status r.statuses t s code) signals
+      (length-set r.statuses t.0 _) long (sixteen-with_status r t s code h.rows)
       (λ e request at. h.rows.requests_known e request (device_had r.devices d e request inside at).1) h.rows;
   sized = long ∙ h.sized;
   devices = length-set r.devices d None ∙ h.devices;
@@ -103,13 +127,18 @@ completed count r d t s code signals long inside own h = record {
 
 -- a status is written that no device has, or gets pending: the others stay as they were
 rewritten : (count : ℕ) (r : RequestRows) (t : ObjNo) (s : ℕ) (value : ℤ) (signals : List ℕ) → length signals ≡ length r.signals
-    → ((d : ℕ) (request : Request) → request_at r d ≡ Some request → request.thread.0 ≡ t.0 → request.status ≡ s → int_eq value pending ≡ true) → AreRequests count r
+    → ((d : ℕ) (request : Request) → request_at r d ≡ Some request → request.thread.0 ≡ t.0 → request.status ≡ s
+    → int_eq value pending ≡ true) → AreRequests count r
     → AreRequests count (record r { statuses = with_status r.statuses t s value; signals = signals })
 rewritten count r t s value signals long own h = record {
-  rows = sound-requests r r.devices (with_status r.statuses t s value) signals (length-set r.statuses t.0 _) long (sixteen-with_status r t s value h.rows) h.rows.requests_known h.rows;
+  rows =
+      sound-requests r r.devices (with_status r.statuses t s value) signals (length-set r.statuses t.0 _) long
+      (sixteen-with_status r t s value h.rows) h.rows.requests_known h.rows;
   sized = long ∙ h.sized;
   devices = h.devices;
-  pending = λ d request at. status_item (λ (value : ℤ). int_eq value pending ≡ true) r.statuses t s value request.thread request.status (own d request at) (h.pending d request at);
+  pending =
+      λ d request at. status_item (λ (value : ℤ). int_eq value pending ≡ true) r.statuses t s value request.thread
+      request.status (own d request at) (h.pending d request at);
   apart = h.apart;
 }
 
@@ -122,20 +151,27 @@ kept_request t (Some own) request is = by (own.thread.0 == t.0) is
     by true e = absurd (cc)
     by false e = e
 
-pub dropped : (t : ObjNo) (devices : List (Option Request)) (d : ℕ) (request : Request) → get_or (map (without t) devices) d None ≡ Some request → get_or devices d None ≡ Some request
+pub dropped : (t : ObjNo) (devices : List (Option Request)) (d : ℕ) (request : Request)
+    → get_or (map (without t) devices) d None ≡ Some request → get_or devices d None ≡ Some request
 dropped t [] d request is = is
 dropped t (x ∷ rest) zero request is = kept_request t x request is
 dropped t (x ∷ rest) (suc d) request is = dropped t rest d request is
 
 -- a move that fits keeps them
-pub requests-moved : (count : ℕ) (m : RequestMove) (r : RequestRows) (logons : List (List (ObjNo × ℕ))) → FitsRequests m r logons → AreRequests count r → AreRequests count (request_moved m r)
+pub requests-moved : (count : ℕ) (m : RequestMove) (r : RequestRows) (logons : List (List (ObjNo × ℕ)))
+    → FitsRequests m r logons → AreRequests count r → AreRequests count (request_moved m r)
 requests-moved count (Begin d t s) r logons fits h = began count r d t s (is_some (request_at r d)) (ap is_some fits.free) fits h
 requests-moved count (Complete d t s code) r logons fits h = completed count r d t s code _ (length-set r.signals t.0 _) fits.0 fits.1 h
 requests-moved count (SetPending t s) r logons fits h = rewritten count r t s pending r.signals refl (λ d request at thread status. refl) h
 requests-moved count (Signal t s code) r logons fits h =
-    rewritten count r t s code _ (length-set r.signals t.0 _) (λ d request at thread status. absurd (fits.0.alone d (at ∙ ap Some (ap (λ (u : ObjNo). of_status u request.status) (same_object request.thread t thread) ∙ ap (of_status t) status)))) h
+    rewritten count r t s code _ (length-set r.signals t.0 _)
+    (λ d request at thread status. absurd (fits.0.alone d
+    (at ∙ ap Some (ap (λ (u : ObjNo). of_status u request.status) (same_object request.thread t thread)
+    ∙ ap (of_status t) status)))) h
 requests-moved count (DropAll t) r logons fits h = record {
-  rows = sound-requests r (map (without t) r.devices) r.statuses r.signals refl refl h.rows.sixteen (λ d request at. h.rows.requests_known d request (dropped t r.devices d request at)) h.rows;
+  rows =
+      sound-requests r (map (without t) r.devices) r.statuses r.signals refl refl h.rows.sixteen
+      (λ d request at. h.rows.requests_known d request (dropped t r.devices d request at)) h.rows;
   sized = h.sized;
   devices = length-map r.devices (without t) ∙ h.devices;
   pending = λ d request at. h.pending d request (dropped t r.devices d request at);
@@ -150,7 +186,12 @@ requests-moved count (TakeSignal t) r logons fits h =
       apart = h.apart;
     }
 requests-moved count (Reply t code) r logons fits h = record {
-  rows = record { statuses_sized = h.rows.statuses_sized; replies_sized = length-set r.replies t.0 code ∙ h.rows.replies_sized; sixteen = h.rows.sixteen; requests_known = h.rows.requests_known };
+  rows = record {
+    statuses_sized = h.rows.statuses_sized;
+    replies_sized = length-set r.replies t.0 code ∙ h.rows.replies_sized;
+    sixteen = h.rows.sixteen;
+    requests_known = h.rows.requests_known;
+  };
   sized = h.sized;
   devices = h.devices;
   pending = h.pending;

@@ -46,7 +46,8 @@ rising-filter p (x ∷ xs) h = by (p x) (rising-filter p xs h.1)
     by false rest = rest
 
 -- what is read off each message and stays where one is edited
-pub edited-value : {B : Type 0} (q : Message → B) (m : MsgNo) (change : MsgRow → MsgRow) (message : Message) → q (record message { row = change message.row }) ≡ q message → q (edited m change message) ≡ q message
+pub edited-value : {B : Type 0} (q : Message → B) (m : MsgNo) (change : MsgRow → MsgRow) (message : Message)
+    → q (record message { row = change message.row }) ≡ q message → q (edited m change message) ≡ q message
 edited-value {B} q m change message keeps = by (has_number m message)
   where
     by : (b : Bool) → q (if b then record message { row = change message.row } else message) ≡ q message
@@ -54,21 +55,29 @@ edited-value {B} q m change message keeps = by (has_number m message)
     by false = refl
 
 -- where no message has a number, none goes with it
-none_goes : (f : Message → ℕ) (m : MsgNo) (xs : List Message) → ((x : Message) → Contains xs x → has_number m x ≡ false) → total f (filter (λ message. not (has_number m message)) xs) ≡ total f xs
+none_goes : (f : Message → ℕ) (m : MsgNo) (xs : List Message) → ((x : Message) → Contains xs x → has_number m x ≡ false)
+    → total f (filter (λ message. not (has_number m message)) xs) ≡ total f xs
 none_goes f m [] none = refl
 none_goes f m (x ∷ xs) none = by (has_number m x) (none x (contains_first xs x)) (none_goes f m xs (λ y there. none y (contains_behind x xs y there)))
   where
-    by : (b : Bool) → b ≡ false → total f (filter (λ message. not (has_number m message)) xs) ≡ total f xs → total f (if not b then x ∷ filter (λ message. not (has_number m message)) xs else filter (λ message. not (has_number m message)) xs) ≡ f x + total f xs
+    by : (b : Bool) → b ≡ false → total f (filter (λ message. not (has_number m message)) xs) ≡ total f xs
+        → total f (if not b then x ∷ filter (λ message. not (has_number m message)) xs else filter
+        (λ message. not (has_number m message)) xs) ≡ f x + total f xs
     by true is rest = absurd (cc)
     by false is rest = omega arith
 
 -- of messages with rising numbers one goes with its number
-pub one_goes : (f : Message → ℕ) (m : MsgNo) (xs : List Message) (message : Message) → AreRising xs → find (has_number m) xs ≡ Some message → total f (filter (λ other. not (has_number m other)) xs) + f message ≡ total f xs
+pub one_goes : (f : Message → ℕ) (m : MsgNo) (xs : List Message) (message : Message) → AreRising xs
+    → find (has_number m) xs ≡ Some message
+    → total f (filter (λ other. not (has_number m other)) xs) + f message ≡ total f xs
 one_goes f m [] message h found = absurd (cc)
 one_goes f m (x ∷ xs) message h found = by (has_number m x) refl (one_goes f m xs message h.1) found
   where
-    by : (b : Bool) → has_number m x ≡ b → (find (has_number m) xs ≡ Some message → total f (filter (λ other. not (has_number m other)) xs) + f message ≡ total f xs) → cond b (Some x) (find (has_number m) xs) ≡ Some message
-        → total f (if not b then x ∷ filter (λ other. not (has_number m other)) xs else filter (λ other. not (has_number m other)) xs) + f message ≡ f x + total f xs
+    by : (b : Bool) → has_number m x ≡ b → (find (has_number m) xs ≡ Some message
+        → total f (filter (λ other. not (has_number m other)) xs) + f message ≡ total f xs)
+        → cond b (Some x) (find (has_number m) xs) ≡ Some message
+        → total f (if not b then x ∷ filter (λ other. not (has_number m other)) xs else filter
+        (λ other. not (has_number m other)) xs) + f message ≡ f x + total f xs
     by true is rest e =
         let own : x ≡ message = cc in
         let number = eqb-true x.number.0 m.0 is in
@@ -81,4 +90,6 @@ pub found_one : (xs : List Message) (message : Message) → AreRising xs → Con
 found_one [] message h there = absurd (none_contained message there)
 found_one (x ∷ xs) message h there = contains_cases (λ (z : Message). find (has_number z.number) (x ∷ xs) ≡ Some z) x xs message there
     (ap (λ (b : Bool). cond b (Some x) (find (has_number x.number) xs)) (eq-eqb x.number.0 x.number.0 refl))
-    (λ z behind. let below = h.0 z behind in ap (λ (b : Bool). cond b (Some x) (find (has_number z.number) xs)) (eqb_apart x.number.0 z.number.0 (λ same. absurd (omega arith))) ∙ found_one xs z h.1 behind)
+    (λ z behind. let below = h.0 z behind in
+    ap (λ (b : Bool). cond b (Some x) (find (has_number z.number) xs))
+    (eqb_apart x.number.0 z.number.0 (λ same. absurd (omega arith))) ∙ found_one xs z h.1 behind)

@@ -15,9 +15,16 @@ use Rattle.move_laws.proofs.References.Same.{same_self}
 use Rattle.move_laws.proofs.Lists.Totals.{total_within}
 
 -- what a duty names is no session still, and what was a session is one
-each_may_owe-servers : (threads : List (Option ThreadRow)) (r new : ServerRows) (accepted more k : ℕ) (what : List Owed) → accepted ≤ more → ((o : ObjNo) → 0 < total (owed_names o) what → session_at r o ≡ None → session_at new o ≡ None) → ((o : ObjNo) → IsSession r o → IsSession new o) → EachMayOwe threads r accepted k what → EachMayOwe threads new more k what
+each_may_owe-servers : (threads : List (Option ThreadRow)) (r new : ServerRows) (accepted more k : ℕ) (what : List Owed)
+    → accepted ≤ more → ((o : ObjNo) → 0 < total (owed_names o) what → session_at r o ≡ None → session_at new o ≡ None)
+    → ((o : ObjNo) → IsSession r o → IsSession new o) → EachMayOwe threads r accepted k what
+    → EachMayOwe threads new more k what
 each_may_owe-servers threads r new accepted more k [] le none still own = tt
-each_may_owe-servers threads r new accepted more k (Close h o ∷ rest) le none still own = (may h own.0, each_may_owe-servers threads r new accepted more k rest le (λ x some. none x (omega arith)) still own.1)
+each_may_owe-servers threads r new accepted more k (Close h o ∷ rest) le none still own = (
+  may h own.0,
+  each_may_owe-servers threads r new accepted more k rest le
+      (λ x some. none x (omega arith)) still own.1,
+)
   where
     may : (h : Holder) → MayOwe threads r accepted k h o → MayOwe threads new more k h o
     may (Temp u) own = own
@@ -26,11 +33,19 @@ each_may_owe-servers threads r new accepted more k (Close h o ∷ rest) le none 
     may (holder.Message m) own = omega arith
     may Kernel own = tt
     may _ own = absurd own
-each_may_owe-servers threads r new accepted more k (Sweep o ∷ rest) le none still own = each_may_owe-servers threads r new accepted more k rest le (λ x some. none x (omega arith)) still own
+each_may_owe-servers threads r new accepted more k (Sweep o ∷ rest) le none still own =
+    each_may_owe-servers threads r new accepted more k rest le (λ x some. none x (omega arith)) still own
 
-pub duties-servers : (threads : List (Option ThreadRow)) (r new : ServerRows) (accepted more : ℕ) (owed : List (List Owed)) → accepted ≤ more → ((o : ObjNo) → 0 < total (total (owed_names o)) owed → session_at r o ≡ None → session_at new o ≡ None) → ((o : ObjNo) → IsSession r o → IsSession new o) → AreDuties threads r accepted owed → AreDuties threads new more owed
+pub duties-servers : (threads : List (Option ThreadRow)) (r new : ServerRows) (accepted more : ℕ)
+    (owed : List (List Owed))
+    → accepted ≤ more
+    → ((o : ObjNo) → 0 < total (total (owed_names o)) owed → session_at r o ≡ None → session_at new o ≡ None)
+    → ((o : ObjNo) → IsSession r o → IsSession new o) → AreDuties threads r accepted owed
+    → AreDuties threads new more owed
 duties-servers threads r new accepted more owed le none still h = record {
-  own = λ k. each_may_owe-servers threads r new accepted more k (get_or owed k []) le (λ o some. none o (let a = total_within (owed_names o) owed k in omega arith)) still (h.own k);
+  own =
+      λ k. each_may_owe-servers threads r new accepted more k (get_or owed k []) le
+      (λ o some. none o (let a = total_within (owed_names o) owed k in omega arith)) still (h.own k);
   few = h.few;
   returns = h.returns;
 }

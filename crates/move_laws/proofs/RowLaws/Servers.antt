@@ -26,7 +26,8 @@ pub still_server : (r new : ServerRows) (t o : ObjNo) → owner (server_at new o
 still_server r new t o same h = by (server_at new o) refl
   where
     by : (row : Option ServerRow) → server_at new o ≡ row → IsServerOf new t o
-    by None is = let a : owner (server_at new o) ≡ Some h.row.owner = same ∙ ap owner h.is in let b : owner (server_at new o) ≡ None = ap owner is in absurd (cc)
+    by None is = let a : owner (server_at new o) ≡ Some h.row.owner = same
+        ∙ ap owner h.is in let b : owner (server_at new o) ≡ None = ap owner is in absurd (cc)
     by (Some row) is =
         let a : Some row.owner ≡ Some h.row.owner = sym (ap owner is) ∙ same ∙ ap owner h.is in
         let e : row.owner ≡ h.row.owner = cc in
@@ -38,7 +39,8 @@ closing_closes (Some row) e = refl
 
 module _ (spent : ThreadRow → Bool) (objects : ℕ) (threads : List (Option ThreadRow)) (locks : LockRows) (owned : List (List ObjNo)) where
   -- a server begins to close
-  pub servers-closing : (r : ServerRows) (o : ObjNo) → AreServers spent objects threads locks owned r → AreServers spent objects threads locks owned (after_closing r o)
+  pub servers-closing : (r : ServerRows) (o : ObjNo) → AreServers spent objects threads locks owned r
+      → AreServers spent objects threads locks owned (after_closing r o)
   servers-closing r o h = record {
     servers_sized = length-set r.servers o.0 _ ∙ h.servers_sized;
     sessions_sized = h.sessions_sized;
@@ -47,7 +49,8 @@ module _ (spent : ThreadRow → Bool) (objects : ℕ) (threads : List (Option Th
     owners = λ t x some. still_server r (after_closing r o) t x (mapped-value owner closing r.servers o.0 x.0 (λ row. refl)) (h.owners t x some);
     once = h.once;
     closing = λ k row x is dead some. set_item (λ (y : Option ServerRow). closes y ≡ true) r.servers o.0 x.0 (option_map closing (server_at r o)) None
-        (λ at. closing_closes (server_at r o) (ap (λ (n : ℕ). closes (get_or r.servers n None)) (sym at) ∙ h.closing k row x is dead some)) (h.closing k row x is dead some);
+        (λ at. closing_closes (server_at r o) (ap (λ (n : ℕ). closes (get_or r.servers n None)) (sym at)
+        ∙ h.closing k row x is dead some)) (h.closing k row x is dead some);
     none = h.none;
     unlinked = λ x is. h.unlinked x (was x is);
     unlocked = λ x is. h.unlocked x (was x is);
@@ -62,7 +65,10 @@ module _ (spent : ThreadRow → Bool) (objects : ℕ) (threads : List (Option Th
       was x is = sym (mapped-some closing r.servers o.0 x.0) ∙ is
 
   -- a session's row changes, but for its server
-  pub servers-session : (r : ServerRows) (s : ObjNo) (f : SessionRow → SessionRow) → ((row : SessionRow) → (f row).server ≡ row.server) → AreServers spent objects threads locks owned r → AreServers spent objects threads locks owned (record r { sessions = slice_set r.sessions s.0 (option_map f (session_at r s)) })
+  pub servers-session : (r : ServerRows) (s : ObjNo) (f : SessionRow → SessionRow)
+      → ((row : SessionRow) → (f row).server ≡ row.server) → AreServers spent objects threads locks owned r
+      → AreServers spent objects threads locks owned
+      (record r { sessions = slice_set r.sessions s.0 (option_map f (session_at r s)) })
   servers-session r s f keeps h = record {
     servers_sized = h.servers_sized;
     sessions_sized = length-set r.sessions s.0 _ ∙ h.sessions_sized;
@@ -94,23 +100,34 @@ length-unlisted (Some v) s linked = length-set linked v.0 _
 
 none-unlisted : (v : Option ObjNo) (s : ObjNo) (linked : List (List ObjNo)) (j : ℕ) → get_or linked j [] ≡ [] → get_or (unlisted v s linked) j [] ≡ []
 none-unlisted None s linked j none = none
-none-unlisted (Some v) s linked j none = set_item (λ (l : List ObjNo). l ≡ []) linked v.0 j (without s (get_or linked v.0 [])) [] (λ at. ap (λ (n : ℕ). without s (get_or linked n [])) (sym at) ∙ ap (without s) none) none
+none-unlisted (Some v) s linked j none =
+    set_item (λ (l : List ObjNo). l ≡ []) linked v.0 j (without s (get_or linked v.0 [])) []
+    (λ at. ap (λ (n : ℕ). without s (get_or linked n [])) (sym at) ∙ ap (without s) none) none
 
 -- whoever is listed then was listed, and isn't the session that one server has no more
-unlisted-holds : (v : Option ObjNo) (s y : ObjNo) (linked : List (List ObjNo)) (j : ℕ) → holds y (get_or (unlisted v s linked) j []) ≡ true → (holds y (get_or linked j []) ≡ true) × ((w : ObjNo) → v ≡ Some w → w.0 ≡ j → y.0 ≡ s.0 → ⊥)
+unlisted-holds : (v : Option ObjNo) (s y : ObjNo) (linked : List (List ObjNo)) (j : ℕ)
+    → holds y (get_or (unlisted v s linked) j []) ≡ true
+    → (holds y (get_or linked j []) ≡ true) × ((w : ObjNo) → v ≡ Some w → w.0 ≡ j → y.0 ≡ s.0 → ⊥)
 unlisted-holds None s y linked j there = (there, λ w e at same. cc)
-unlisted-holds (Some v) s y linked j there = elim (cases_eq v.0 j) as (λ _. (holds y (get_or linked j []) ≡ true) × ((w : ObjNo) → Some v ≡ Some w → w.0 ≡ j → y.0 ≡ s.0 → ⊥)) [
-  | inl at ↦
-      let here : holds y (without s (get_or linked j [])) ≡ true = ap (holds y) (sym (made-here (without s) [] linked v.0 j refl at)) ∙ there in
-      let parts = and_parts (holds y (get_or linked j [])) (not (y.0 == s.0)) (sym (listed-filter (λ (other : ObjNo). not (other.0 == s.0)) (get_or linked j []) y) ∙ here) in
-      (parts.0, λ w e is same. let yes = eq-eqb y.0 s.0 same in let no = parts.1 in cc)
-  | inr apart ↦
-      (ap (holds y) (sym (made-other (without s) [] linked v.0 j apart)) ∙ there, λ w e is same. let own : v ≡ w = cc in apart (ap (λ (x : ObjNo). x.0) own ∙ is))
-]
+unlisted-holds (Some v) s y linked j there =
+    elim (cases_eq v.0 j) as (λ _. (holds y (get_or linked j []) ≡ true)
+    × ((w : ObjNo) → Some v ≡ Some w → w.0 ≡ j → y.0 ≡ s.0 → ⊥)) [
+      | inl at ↦
+          let here : holds y (without s (get_or linked j [])) ≡ true = ap (holds y) (sym (made-here (without s) [] linked v.0 j refl at)) ∙ there in
+          let parts = and_parts (holds y (get_or linked j [])) (not (y.0 == s.0))
+          (sym (listed-filter (λ (other : ObjNo). not (other.0 == s.0)) (get_or linked j []) y) ∙ here) in
+          (parts.0, λ w e is same. let yes = eq-eqb y.0 s.0 same in let no = parts.1 in cc)
+      | inr apart ↦ (
+        ap (holds y) (sym (made-other (without s) [] linked v.0 j apart)) ∙ there,
+        λ w e is same. let own : v ≡ w = cc in
+            apart (ap (λ (x : ObjNo). x.0) own ∙ is),
+      )
+    ]
 
 -- a session is detached
 module _ (spent : ThreadRow → Bool) (objects : ℕ) (threads : List (Option ThreadRow)) (locks : LockRows) (owned : List (List ObjNo)) where
-  pub servers-detach : (r : ServerRows) (s : ObjNo) → AreServers spent objects threads locks owned r → AreServers spent objects threads locks owned (after_detach r s)
+  pub servers-detach : (r : ServerRows) (s : ObjNo) → AreServers spent objects threads locks owned r
+      → AreServers spent objects threads locks owned (after_detach r s)
   servers-detach r s h = record {
     servers_sized = h.servers_sized;
     sessions_sized = length-set r.sessions s.0 _ ∙ h.sessions_sized;

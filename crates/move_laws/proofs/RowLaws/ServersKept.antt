@@ -22,8 +22,12 @@ pub record OwnsAs (spent : ThreadRow → Bool) (owned : List (List ObjNo)) (r : 
   pub none : spent row ≡ true → get_or owned k [] ≡ []
 
 -- other rows of as many threads, of which none is new, and as many objects or more
-pub servers-threads : (spent : ThreadRow → Bool) (objects more : ℕ) (threads other : List (Option ThreadRow)) (locks : LockRows) (owned : List (List ObjNo)) (r : ServerRows) → objects ≤ more → length other ≡ length threads → ((k : ℕ) → get_or threads k None ≡ None → get_or other k None ≡ None)
-    → ((k : ℕ) (row : ThreadRow) → get_or other k None ≡ Some row → OwnsAs spent owned r k row) → AreServers spent objects threads locks owned r → AreServers spent more other locks owned r
+pub servers-threads : (spent : ThreadRow → Bool) (objects more : ℕ) (threads other : List (Option ThreadRow))
+    (locks : LockRows) (owned : List (List ObjNo)) (r : ServerRows)
+    → objects ≤ more → length other ≡ length threads
+    → ((k : ℕ) → get_or threads k None ≡ None → get_or other k None ≡ None)
+    → ((k : ℕ) (row : ThreadRow) → get_or other k None ≡ Some row → OwnsAs spent owned r k row)
+    → AreServers spent objects threads locks owned r → AreServers spent more other locks owned r
 servers-threads spent objects more threads other locks owned r le long none owns h = record {
   servers_sized = h.servers_sized;
   sessions_sized = h.sessions_sized;
@@ -43,14 +47,24 @@ servers-threads spent objects more threads other locks owned r le long none owns
 }
 
 -- each thread owns so
-pub owns_as : (spent : ThreadRow → Bool) (objects : ℕ) (threads : List (Option ThreadRow)) (locks : LockRows) (owned : List (List ObjNo)) (r : ServerRows) → AreServers spent objects threads locks owned r → (k : ℕ) (row : ThreadRow) → get_or threads k None ≡ Some row → OwnsAs spent owned r k row
+pub owns_as : (spent : ThreadRow → Bool) (objects : ℕ) (threads : List (Option ThreadRow)) (locks : LockRows)
+    (owned : List (List ObjNo)) (r : ServerRows)
+    → AreServers spent objects threads locks owned r → (k : ℕ) (row : ThreadRow) → get_or threads k None ≡ Some row
+    → OwnsAs spent owned r k row
 owns_as spent objects threads locks owned r h k row is = record { closing = λ dead o some. h.closing k row o is dead some; none = λ gone. h.none k row is gone }
 
-pub servers-more : (spent : ThreadRow → Bool) (objects more : ℕ) (threads : List (Option ThreadRow)) (locks : LockRows) (owned : List (List ObjNo)) (r : ServerRows) → objects ≤ more → AreServers spent objects threads locks owned r → AreServers spent more threads locks owned r
-servers-more spent objects more threads locks owned r le h = servers-threads spent objects more threads threads locks owned r le (omega arith) (λ k none. none) (owns_as spent objects threads locks owned r h) h
+pub servers-more : (spent : ThreadRow → Bool) (objects more : ℕ) (threads : List (Option ThreadRow)) (locks : LockRows)
+    (owned : List (List ObjNo)) (r : ServerRows)
+    → objects ≤ more → AreServers spent objects threads locks owned r → AreServers spent more threads locks owned r
+servers-more spent objects more threads locks owned r le h =
+    servers-threads spent objects more threads threads locks owned r le (omega arith) (λ k none. none)
+    (owns_as spent objects threads locks owned r h) h
 
 -- a row changes, after which its thread owns so still
-pub servers-with_row : (spent : ThreadRow → Bool) (objects : ℕ) (threads : List (Option ThreadRow)) (locks : LockRows) (owned : List (List ObjNo)) (r : ServerRows) (u : ObjNo) (f : ThreadRow → ThreadRow) → ((row : ThreadRow) → get_or threads u.0 None ≡ Some row → OwnsAs spent owned r u.0 row → OwnsAs spent owned r u.0 (f row))
+pub servers-with_row : (spent : ThreadRow → Bool) (objects : ℕ) (threads : List (Option ThreadRow)) (locks : LockRows)
+    (owned : List (List ObjNo)) (r : ServerRows) (u : ObjNo) (f : ThreadRow → ThreadRow)
+    → ((row : ThreadRow) → get_or threads u.0 None ≡ Some row → OwnsAs spent owned r u.0 row
+    → OwnsAs spent owned r u.0 (f row))
     → AreServers spent objects threads locks owned r → AreServers spent objects (with_row threads u f) locks owned r
 servers-with_row spent objects threads locks owned r u f keeps h =
     let owns = owns_as spent objects threads locks owned r h in
@@ -58,19 +72,33 @@ servers-with_row spent objects threads locks owned r u f keeps h =
     (λ k row is. was_row threads u f (OwnsAs spent owned r) (λ old was. keeps old was (owns u.0 old was)) owns k row is) h
 
 -- but for its stage
-pub servers-kept : (spent : ThreadRow → Bool) (objects : ℕ) (threads : List (Option ThreadRow)) (locks : LockRows) (owned : List (List ObjNo)) (r : ServerRows) (u : ObjNo) (f : ThreadRow → ThreadRow) → ((row : ThreadRow) → (f row).stage ≡ row.stage) → ((row : ThreadRow) → spent (f row) ≡ spent row)
+pub servers-kept : (spent : ThreadRow → Bool) (objects : ℕ) (threads : List (Option ThreadRow)) (locks : LockRows)
+    (owned : List (List ObjNo)) (r : ServerRows) (u : ObjNo) (f : ThreadRow → ThreadRow)
+    → ((row : ThreadRow) → (f row).stage ≡ row.stage) → ((row : ThreadRow) → spent (f row) ≡ spent row)
     → AreServers spent objects threads locks owned r → AreServers spent objects (with_row threads u f) locks owned r
 servers-kept spent objects threads locks owned r u f stage same h = servers-with_row spent objects threads locks owned r u f
-    (λ row is has. record { closing = λ dead o some. has.closing (sym (ap is_live (stage row)) ∙ dead) o some; none = λ gone. has.none (sym (same row) ∙ gone) }) h
+    (λ row is has. record {
+      closing = λ dead o some. has.closing (sym (ap is_live (stage row)) ∙ dead) o some;
+      none = λ gone. has.none (sym (same row) ∙ gone);
+    }) h
 
 -- a thread's row goes
-pub servers-swept : (spent : ThreadRow → Bool) (objects : ℕ) (threads : List (Option ThreadRow)) (locks : LockRows) (owned : List (List ObjNo)) (r : ServerRows) (o : ℕ) → AreServers spent objects threads locks owned r → AreServers spent objects (set threads o None) locks owned r
-servers-swept spent objects threads locks owned r o h = servers-threads spent objects objects threads (set threads o None) locks owned r (omega arith) (length-set threads o None)
+pub servers-swept : (spent : ThreadRow → Bool) (objects : ℕ) (threads : List (Option ThreadRow)) (locks : LockRows)
+    (owned : List (List ObjNo)) (r : ServerRows) (o : ℕ)
+    → AreServers spent objects threads locks owned r → AreServers spent objects (set threads o None) locks owned r
+servers-swept spent objects threads locks owned r o h =
+    servers-threads spent objects objects threads (set threads o None) locks owned r (omega arith)
+    (length-set threads o None)
     (λ k. set_item (λ (x : Option ThreadRow). x ≡ None) threads o k None None (λ at. refl))
-    (λ k row is. owns_as spent objects threads locks owned r h k row (set_item (λ (x : Option ThreadRow). x ≡ Some row → get_or threads k None ≡ Some row) threads o k None None (λ at e. absurd (cc)) (λ e. e) is)) h
+    (λ k row is. owns_as spent objects threads locks owned r h k row
+    (set_item (λ (x : Option ThreadRow). x ≡ Some row → get_or threads k None ≡ Some row) threads o k None None
+    (λ at e. absurd (cc)) (λ e. e) is)) h
 
 -- other rows of mutexes and semaphores, in which nobody owns a server as a mutex
-pub servers-locks : (spent : ThreadRow → Bool) (objects : ℕ) (threads : List (Option ThreadRow)) (locks new : LockRows) (owned : List (List ObjNo)) (r : ServerRows) → ((o : ObjNo) → IsServer r o → owner_at new o ≡ None) → AreServers spent objects threads locks owned r → AreServers spent objects threads new owned r
+pub servers-locks : (spent : ThreadRow → Bool) (objects : ℕ) (threads : List (Option ThreadRow)) (locks new : LockRows)
+    (owned : List (List ObjNo)) (r : ServerRows)
+    → ((o : ObjNo) → IsServer r o → owner_at new o ≡ None) → AreServers spent objects threads locks owned r
+    → AreServers spent objects threads new owned r
 servers-locks spent objects threads locks new owned r none h = record {
   servers_sized = h.servers_sized;
   sessions_sized = h.sessions_sized;
@@ -90,14 +118,23 @@ servers-locks spent objects threads locks new owned r none h = record {
 }
 
 -- where the owner of one object changes
-pub unlocked-set : (locks : LockRows) (r : ServerRows) (o : ObjNo) (owner : Option Owner) → (IsServer r o → owner_at locks o ≡ None → owner ≡ None) → ((x : ObjNo) → IsServer r x → owner_at locks x ≡ None) → (x : ObjNo) → IsServer r x → get_or (set locks.owners o.0 owner) x.0 None ≡ None
+pub unlocked-set : (locks : LockRows) (r : ServerRows) (o : ObjNo) (owner : Option Owner)
+    → (IsServer r o → owner_at locks o ≡ None → owner ≡ None) → ((x : ObjNo) → IsServer r x → owner_at locks x ≡ None)
+    → (x : ObjNo) → IsServer r x → get_or (set locks.owners o.0 owner) x.0 None ≡ None
 unlocked-set locks r o owner keeps none x is = set_item (λ (w : Option Owner). w ≡ None) locks.owners o.0 x.0 owner None
     (λ at. let here : IsServer r o = subst (λ (y : ObjNo). IsServer r y) (same_object x o at) is in keeps here (none o here)) (none x is)
 
 -- nobody owns what is no server
-pub unowned-other : (spent : ThreadRow → Bool) (objects : ℕ) (threads : List (Option ThreadRow)) (locks : LockRows) (owned : List (List ObjNo)) (r : ServerRows) (t o : ObjNo) → server_at r o ≡ None → AreServers spent objects threads locks owned r → times_owned owned t o ≡ 0
-unowned-other spent objects threads locks owned r t o none h = zero_or (times_owned owned t o) (λ some. let v = h.owners t o some in let is = v.is in absurd (cc))
+pub unowned-other : (spent : ThreadRow → Bool) (objects : ℕ) (threads : List (Option ThreadRow)) (locks : LockRows)
+    (owned : List (List ObjNo)) (r : ServerRows) (t o : ObjNo)
+    → server_at r o ≡ None → AreServers spent objects threads locks owned r → times_owned owned t o ≡ 0
+unowned-other spent objects threads locks owned r t o none h =
+    zero_or (times_owned owned t o) (λ some. let v = h.owners t o some in let is = v.is in absurd (cc))
 
 -- nor what a thread owns as a mutex
-pub unowned-locked : (spent : ThreadRow → Bool) (objects : ℕ) (threads : List (Option ThreadRow)) (locks : LockRows) (owned : List (List ObjNo)) (r : ServerRows) (t o : ObjNo) (owner : Owner) → owner_at locks o ≡ Some owner → AreServers spent objects threads locks owned r → times_owned owned t o ≡ 0
-unowned-locked spent objects threads locks owned r t o owner held h = zero_or (times_owned owned t o) (λ some. let v = h.owners t o some in let free = h.unlocked o (rw v.is refl) in absurd (cc))
+pub unowned-locked : (spent : ThreadRow → Bool) (objects : ℕ) (threads : List (Option ThreadRow)) (locks : LockRows)
+    (owned : List (List ObjNo)) (r : ServerRows) (t o : ObjNo) (owner : Owner)
+    → owner_at locks o ≡ Some owner → AreServers spent objects threads locks owned r → times_owned owned t o ≡ 0
+unowned-locked spent objects threads locks owned r t o owner held h =
+    zero_or (times_owned owned t o) (λ some. let v = h.owners t o some in let free = h.unlocked o (rw v.is refl) in
+    absurd (cc))

@@ -18,10 +18,19 @@ use Rattle.move_laws.proofs.Holders.ThreadRows.{row-here}
 use Rattle.move_laws.proofs.RowLaws.Threads.{map_some, was_row}
 
 -- a change of a row, after which the thread has given up all if its death came so far
-pub spent-with_row : (objects : List (Option ObjectRow)) (tables : List (List HandleSlot)) (threads : List (Option ThreadRow)) (u : ObjNo) (f : ThreadRow → ThreadRow) → ((row : ThreadRow) → get_or threads u.0 None ≡ Some row → is_spent (f row).stage ≡ true → (is_spent row.stage ≡ true → IsSpent tables u.0 row) → IsSpent tables u.0 (f row)) → ((row : ThreadRow) → row.link ≡ None → (f row).link ≡ None) → AreSpent objects tables threads → AreSpent objects tables (with_row threads u f)
+pub spent-with_row : (objects : List (Option ObjectRow)) (tables : List (List HandleSlot))
+    (threads : List (Option ThreadRow)) (u : ObjNo) (f : ThreadRow → ThreadRow)
+    → ((row : ThreadRow) → get_or threads u.0 None ≡ Some row → is_spent (f row).stage ≡ true
+    → (is_spent row.stage ≡ true → IsSpent tables u.0 row) → IsSpent tables u.0 (f row))
+    → ((row : ThreadRow) → row.link ≡ None → (f row).link ≡ None) → AreSpent objects tables threads
+    → AreSpent objects tables (with_row threads u f)
 spent-with_row objects tables threads u f here link h = record {
-  rows = λ k row is. was_row threads u f (λ (n : ℕ) (r : ThreadRow). is_spent r.stage ≡ true → IsSpent tables n r) (λ old was after. here old was after (h.rows u.0 old was)) h.rows k row is;
-  unlinked = λ k row is. was_row threads u f (λ (n : ℕ) (r : ThreadRow). is_dead (get_or objects n None) ≡ 1 → r.link ≡ None) (λ old was dead. link old (h.unlinked u.0 old was dead)) h.unlinked k row is;
+  rows =
+      λ k row is. was_row threads u f (λ (n : ℕ) (r : ThreadRow). is_spent r.stage ≡ true → IsSpent tables n r)
+      (λ old was after. here old was after (h.rows u.0 old was)) h.rows k row is;
+  unlinked =
+      λ k row is. was_row threads u f (λ (n : ℕ) (r : ThreadRow). is_dead (get_or objects n None) ≡ 1 → r.link ≡ None)
+      (λ old was dead. link old (h.unlinked u.0 old was dead)) h.unlinked k row is;
 }
 
 -- a change of a row that gives nothing back, and begins no wait and no return
@@ -32,16 +41,32 @@ pub record KeepsSpent (f : ThreadRow → ThreadRow) : Type 0 where
   pub going : (row : ThreadRow) → is_returning row.part ≡ false → is_returning (f row).part ≡ false
   pub link : (row : ThreadRow) → row.link ≡ None → (f row).link ≡ None
 
-pub spent-kept : (objects : List (Option ObjectRow)) (tables : List (List HandleSlot)) (threads : List (Option ThreadRow)) (u : ObjNo) (f : ThreadRow → ThreadRow) → KeepsSpent f → AreSpent objects tables threads → AreSpent objects tables (with_row threads u f)
+pub spent-kept : (objects : List (Option ObjectRow)) (tables : List (List HandleSlot))
+    (threads : List (Option ThreadRow)) (u : ObjNo) (f : ThreadRow → ThreadRow)
+    → KeepsSpent f → AreSpent objects tables threads → AreSpent objects tables (with_row threads u f)
 spent-kept objects tables threads u f keeps h = spent-with_row objects tables threads u f
-    (λ row is after had. let was = had (sym (ap is_spent (keeps.stage row)) ∙ after) in record { unused = keeps.unused row was.unused; waits = keeps.waits row was.waits; going = keeps.going row was.going; empty = was.empty }) keeps.link h
+    (λ row is after had. let was = had (sym (ap is_spent (keeps.stage row)) ∙ after) in
+    record {
+      unused = keeps.unused row was.unused;
+      waits = keeps.waits row was.waits;
+      going = keeps.going row was.going;
+      empty = was.empty;
+    }) keeps.link h
 
 -- any change of a row that isn't one of a thread that has given up all, and keeps its link
-pub spent-going : (objects : List (Option ObjectRow)) (tables : List (List HandleSlot)) (threads : List (Option ThreadRow)) (u : ObjNo) (f : ThreadRow → ThreadRow) → ((row : ThreadRow) → get_or threads u.0 None ≡ Some row → is_spent (f row).stage ≡ false) → ((row : ThreadRow) → row.link ≡ None → (f row).link ≡ None) → AreSpent objects tables threads → AreSpent objects tables (with_row threads u f)
-spent-going objects tables threads u f going link h = spent-with_row objects tables threads u f (λ row is after had. let no = going row is in absurd (cc)) link h
+pub spent-going : (objects : List (Option ObjectRow)) (tables : List (List HandleSlot))
+    (threads : List (Option ThreadRow)) (u : ObjNo) (f : ThreadRow → ThreadRow)
+    → ((row : ThreadRow) → get_or threads u.0 None ≡ Some row → is_spent (f row).stage ≡ false)
+    → ((row : ThreadRow) → row.link ≡ None → (f row).link ≡ None) → AreSpent objects tables threads
+    → AreSpent objects tables (with_row threads u f)
+spent-going objects tables threads u f going link h =
+    spent-with_row objects tables threads u f (λ row is after had. let no = going row is in absurd (cc)) link h
 
 -- a slot of the table of one that isn't such a thread
-pub spent-slot : (objects : List (Option ObjectRow)) (tables : List (List HandleSlot)) (threads : List (Option ThreadRow)) (p : ObjNo) (i : ℕ) (change : HandleSlot → HandleSlot) → ((row : ThreadRow) → get_or threads p.0 None ≡ Some row → is_spent row.stage ≡ false) → AreSpent objects tables threads → AreSpent objects (with_slot tables p i change) threads
+pub spent-slot : (objects : List (Option ObjectRow)) (tables : List (List HandleSlot))
+    (threads : List (Option ThreadRow)) (p : ObjNo) (i : ℕ) (change : HandleSlot → HandleSlot)
+    → ((row : ThreadRow) → get_or threads p.0 None ≡ Some row → is_spent row.stage ≡ false)
+    → AreSpent objects tables threads → AreSpent objects (with_slot tables p i change) threads
 spent-slot objects tables threads p i change going h = record {
   rows = λ k row is after. elim (cases_eq p.0 k) as (λ _. IsSpent (with_slot tables p i change) k row) [
     | inl at ↦ let no = going row (subst (λ (n : ℕ). get_or threads n None ≡ Some row) (sym at) is) in absurd (cc)
@@ -54,24 +79,32 @@ spent-slot objects tables threads p i change going h = record {
 }
 
 -- a slot of any table that becomes free
-pub spent-freed : (objects : List (Option ObjectRow)) (tables : List (List HandleSlot)) (threads : List (Option ThreadRow)) (p : ObjNo) (i : ℕ) → AreSpent objects tables threads → AreSpent objects (with_slot tables p i freed_slot) threads
+pub spent-freed : (objects : List (Option ObjectRow)) (tables : List (List HandleSlot))
+    (threads : List (Option ThreadRow)) (p : ObjNo) (i : ℕ)
+    → AreSpent objects tables threads → AreSpent objects (with_slot tables p i freed_slot) threads
 spent-freed objects tables threads p i h = record {
   rows = λ k row is after. let s = h.rows k row is after in record {
     unused = s.unused;
     waits = s.waits;
     going = s.going;
     empty = λ j. set_item (λ (table : List HandleSlot). (slot_at table j).object ≡ None) tables p.0 k _ []
-        (λ at. set_item (λ (slot : HandleSlot). slot.object ≡ None) (get_or tables p.0 []) i j (freed_slot (slot_at (get_or tables p.0 []) i)) fresh_slot (λ _. refl) (subst (λ (n : ℕ). (slot_at (get_or tables n []) j).object ≡ None) at (s.empty j))) (s.empty j);
+        (λ at. set_item (λ (slot : HandleSlot). slot.object ≡ None) (get_or tables p.0 []) i j
+        (freed_slot (slot_at (get_or tables p.0 []) i)) fresh_slot (λ _. refl)
+        (subst (λ (n : ℕ). (slot_at (get_or tables n []) j).object ≡ None) at (s.empty j))) (s.empty j);
   };
   unlinked = h.unlinked;
 }
 
 -- other objects, of which no more are dead
-pub spent-objects : (objects other : List (Option ObjectRow)) (tables : List (List HandleSlot)) (threads : List (Option ThreadRow)) → ((k : ℕ) → is_dead (get_or other k None) ≡ 1 → is_dead (get_or objects k None) ≡ 1) → AreSpent objects tables threads → AreSpent other tables threads
+pub spent-objects : (objects other : List (Option ObjectRow)) (tables : List (List HandleSlot))
+    (threads : List (Option ThreadRow))
+    → ((k : ℕ) → is_dead (get_or other k None) ≡ 1 → is_dead (get_or objects k None) ≡ 1)
+    → AreSpent objects tables threads → AreSpent other tables threads
 spent-objects objects other tables threads fewer h = record { rows = h.rows; unlinked = λ k row is dead. h.unlinked k row is (fewer k dead) }
 
 -- such are those with a further one that is alive
-pub made-dead : (objects : List (Option ObjectRow)) (new : ObjectRow) → new.dead ≡ false → (k : ℕ) → is_dead (get_or (objects ++ Some new ∷ []) k None) ≡ 1 → is_dead (get_or objects k None) ≡ 1
+pub made-dead : (objects : List (Option ObjectRow)) (new : ObjectRow) → new.dead ≡ false → (k : ℕ)
+    → is_dead (get_or (objects ++ Some new ∷ []) k None) ≡ 1 → is_dead (get_or objects k None) ≡ 1
 made-dead [] new alive zero dead = let a : is_dead (Some new) ≡ 0 = rw alive refl in absurd (omega arith)
 made-dead [] new alive (suc k) dead = dead
 made-dead (x ∷ xs) new alive zero dead = dead
@@ -79,23 +112,34 @@ made-dead (x ∷ xs) new alive (suc k) dead = made-dead xs new alive k dead
 
 -- and those without one
 pub swept-dead : (objects : List (Option ObjectRow)) (o k : ℕ) → is_dead (get_or (set objects o None) k None) ≡ 1 → is_dead (get_or objects k None) ≡ 1
-swept-dead objects o k = set_item (λ (row : Option ObjectRow). is_dead row ≡ 1 → is_dead (get_or objects k None) ≡ 1) objects o k None None (λ at dead. absurd (omega arith)) (λ dead. dead)
+swept-dead objects o k =
+    set_item (λ (row : Option ObjectRow). is_dead row ≡ 1 → is_dead (get_or objects k None) ≡ 1) objects o k None None
+    (λ at dead. absurd (omega arith)) (λ dead. dead)
 
 -- an object dies, and its link is taken off its row
-pub spent-died : (objects : List (Option ObjectRow)) (tables : List (List HandleSlot)) (threads : List (Option ThreadRow)) (o : ObjNo) (dead : Option ObjectRow) → AreSpent objects tables threads → AreSpent (set objects o.0 dead) tables (with_row threads o unlinked)
+pub spent-died : (objects : List (Option ObjectRow)) (tables : List (List HandleSlot))
+    (threads : List (Option ThreadRow)) (o : ObjNo) (dead : Option ObjectRow)
+    → AreSpent objects tables threads → AreSpent (set objects o.0 dead) tables (with_row threads o unlinked)
 spent-died objects tables threads o dead h = record {
   rows = kept.rows;
   unlinked = λ k row is gone. elim (cases_eq o.0 k) as (λ _. row.link ≡ None) [
-    | inl at ↦ let was = map_some unlinked (get_or threads o.0 None) row (sym (row-here threads o unlinked k at) ∙ is) in sym (ap (λ (r : ThreadRow). r.link) was.2)
+    | inl at ↦
+        let was = map_some unlinked (get_or threads o.0 None) row (sym (row-here threads o unlinked k at) ∙ is) in
+        sym (ap (λ (r : ThreadRow). r.link) was.2)
     | inr apart ↦ kept.unlinked k row is (ap is_dead (sym (get_or-set_other objects o.0 k dead None (λ e. apart (sym e)))) ∙ gone)
   ];
 }
   where
     kept : AreSpent objects tables (with_row threads o unlinked)
-    kept = spent-kept objects tables threads o unlinked (record { stage = λ row. refl; unused = λ row e. e; waits = λ row e. e; going = λ row e. e; link = λ row e. refl }) h
+    kept =
+        spent-kept objects tables threads o unlinked
+        (record { stage = λ row. refl; unused = λ row e. e; waits = λ row e. e; going = λ row e. e; link = λ row e. refl })
+        h
 
 -- a thread's row goes with its object
-pub spent-swept : (objects : List (Option ObjectRow)) (tables : List (List HandleSlot)) (threads : List (Option ThreadRow)) (o : ℕ) → AreSpent objects tables threads → AreSpent (set objects o None) tables (set threads o None)
+pub spent-swept : (objects : List (Option ObjectRow)) (tables : List (List HandleSlot))
+    (threads : List (Option ThreadRow)) (o : ℕ)
+    → AreSpent objects tables threads → AreSpent (set objects o None) tables (set threads o None)
 spent-swept objects tables threads o h = record {
   rows = λ k row is. h.rows k row (there k row is);
   unlinked = λ k row is gone. h.unlinked k row (there k row is) (swept-dead objects o k gone);

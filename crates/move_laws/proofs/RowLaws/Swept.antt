@@ -38,7 +38,9 @@ pub record IsOver (tables : List (List HandleSlot)) (threads : List (Option Thre
 
 -- what is there without a row was there with it, and what wasn't there isn't
 was-there : (threads : List (Option ThreadRow)) (o k : ℕ) (row : ThreadRow) → get_or (set threads o None) k None ≡ Some row → get_or threads k None ≡ Some row
-was-there threads o k row = set_item (λ (x : Option ThreadRow). x ≡ Some row → get_or threads k None ≡ Some row) threads o k None None (λ at e. absurd (cc)) (λ e. e)
+was-there threads o k row =
+    set_item (λ (x : Option ThreadRow). x ≡ Some row → get_or threads k None ≡ Some row) threads o k None None
+    (λ at e. absurd (cc)) (λ e. e)
 
 none-there : (threads : List (Option ThreadRow)) (o k : ℕ) → get_or threads k None ≡ None → get_or (set threads o None) k None ≡ None
 none-there threads o k = set_item (λ (x : Option ThreadRow). x ≡ None) threads o k None None (λ at. refl)
@@ -50,23 +52,41 @@ threads-swept script threads o h = record {
   servers = λ k queue row is serves. h.servers k queue row (was-there threads o k row is) serves;
 }
 
-pub duties-swept : (threads : List (Option ThreadRow)) (r : ServerRows) (accepted : ℕ) (owed : List (List Owed)) (o : ℕ) → AreDuties threads r accepted owed → AreDuties (set threads o None) r accepted owed
+pub duties-swept : (threads : List (Option ThreadRow)) (r : ServerRows) (accepted : ℕ) (owed : List (List Owed)) (o : ℕ)
+    → AreDuties threads r accepted owed → AreDuties (set threads o None) r accepted owed
 duties-swept threads r accepted owed o h = duties-threads threads (set threads o None) r accepted owed (λ k. inr (record {
   long = length-set threads o None;
   none = λ j none. none-there threads o j none;
   going = λ going. set_item (λ (x : Option ThreadRow). is_returning (part_of x) ≡ false) threads o k None None (λ at. refl) going;
 })) h
 
-pub memories-swept : (threads : List (Option ThreadRow)) (memories : List (Option (List ℕ))) (o : ℕ) → AreMemories threads memories → AreMemories (set threads o None) memories
-memories-swept threads memories o h = record { sized = h.sized ∙ sym (length-set threads o None); bytes = h.bytes; processes = λ k row is. h.processes k row (was-there threads o k row is) }
+pub memories-swept : (threads : List (Option ThreadRow)) (memories : List (Option (List ℕ))) (o : ℕ)
+    → AreMemories threads memories → AreMemories (set threads o None) memories
+memories-swept threads memories o h = record {
+  sized = h.sized ∙ sym (length-set threads o None);
+  bytes = h.bytes;
+  processes = λ k row is. h.processes k row (was-there threads o k row is);
+}
 
 -- the holders of fast mutexes are others
-pub synchronized-swept : (script : Script) (threads : List (Option ThreadRow)) (o : ObjNo) (r : NanoRows) → ((f : ℕ) (u : ObjNo) → holder_of r f ≡ Some u → u.0 ≡ o.0 → ⊥) → AreSynchronized script threads r → AreSynchronized script (set threads o.0 None) r
+pub synchronized-swept : (script : Script) (threads : List (Option ThreadRow)) (o : ObjNo) (r : NanoRows)
+    → ((f : ℕ) (u : ObjNo) → holder_of r f ≡ Some u → u.0 ≡ o.0 → ⊥) → AreSynchronized script threads r
+    → AreSynchronized script (set threads o.0 None) r
 synchronized-swept script threads o r apart h = synchronized-threads script threads (set threads o.0 None) r (length-set threads o.0 None)
-    (λ f u is held. record { row = held.row; is = get_or-set_other threads o.0 u.0 None None (apart f u is) ∙ held.is; live = held.live; serves = held.serves; waits = held.waits; going = held.going; wants = held.wants }) h
+    (λ f u is held. record {
+      row = held.row;
+      is = get_or-set_other threads o.0 u.0 None None (apart f u is) ∙ held.is;
+      live = held.live;
+      serves = held.serves;
+      waits = held.waits;
+      going = held.going;
+      wants = held.wants;
+    }) h
 
 -- it waits for nothing
-pub leaves-swept : (tables : List (List HandleSlot)) (threads : List (Option ThreadRow)) (owed : List (List Owed)) (o : ℕ) (r : LockRows) → IsOver tables threads o → LeavesLocks threads (set threads o None) owed owed r
+pub leaves-swept : (tables : List (List HandleSlot)) (threads : List (Option ThreadRow)) (owed : List (List Owed))
+    (o : ℕ) (r : LockRows)
+    → IsOver tables threads o → LeavesLocks threads (set threads o None) owed owed r
 leaves-swept tables threads owed o r over = record {
   long = length-set threads o None;
   waits = λ t x among h. elim (cases_eq t.0 o) [
@@ -83,37 +103,59 @@ leaves-swept tables threads owed o r over = record {
 
 -- it refers to nothing
 names-none : (row : ThreadRow) (p : ObjNo) → row.link ≡ None → row.uses ≡ None → thread_names p (Some row) ≡ 0
-names-none row p link uses = let a : option_names p row.link ≡ 0 = ap (option_names p) link in let b : option_names p row.uses ≡ 0 = ap (option_names p) uses in omega arith
+names-none row p link uses =
+    let a : option_names p row.link ≡ 0 = ap (option_names p) link in
+    let b : option_names p row.uses ≡ 0 = ap (option_names p) uses in
+    omega arith
 
-pub counts-swept : (tables : List (List HandleSlot)) (threads : List (Option ThreadRow)) (o : ℕ) (p : ObjNo) → IsOver tables threads o → total (thread_names p) (set threads o None) ≡ total (thread_names p) threads
+pub counts-swept : (tables : List (List HandleSlot)) (threads : List (Option ThreadRow)) (o : ℕ) (p : ObjNo)
+    → IsOver tables threads o → total (thread_names p) (set threads o None) ≡ total (thread_names p) threads
 counts-swept tables threads o p over =
     let moved = total-set (thread_names p) threads o None None (inside threads o over.row over.is) in
     let was : thread_names p (get_or threads o None) ≡ 0 = ap (thread_names p) over.is ∙ names-none over.row p over.unlinked over.spent.unused in omega arith
 
 -- it is out on nothing
-pub seeks-swept : (tables : List (List HandleSlot)) (threads : List (Option ThreadRow)) (o : ℕ) (p : ObjNo) → IsOver tables threads o → total (seeks p) (set threads o None) ≡ total (seeks p) threads
+pub seeks-swept : (tables : List (List HandleSlot)) (threads : List (Option ThreadRow)) (o : ℕ) (p : ObjNo)
+    → IsOver tables threads o → total (seeks p) (set threads o None) ≡ total (seeks p) threads
 seeks-swept tables threads o p over =
     let moved = total-set (seeks p) threads o None None (inside threads o over.row over.is) in
-    let was : seeks p (get_or threads o None) ≡ 0 = ap (seeks p) over.is ∙ if_not (is_returning over.row.part) (same (found_object over.row) p) over.spent.going in omega arith
+    let was : seeks p (get_or threads o None) ≡ 0 = ap (seeks p) over.is
+    ∙ if_not (is_returning over.row.part) (same (found_object over.row) p) over.spent.going in
+    omega arith
 
 -- a number of each row that is 0 of this and where there is none
-same-number : (q : Option ThreadRow → ℕ) (threads : List (Option ThreadRow)) (o k : ℕ) (row : ThreadRow) → get_or threads o None ≡ Some row → q None ≡ 0 → q (Some row) ≡ 0 → q (get_or (set threads o None) k None) ≡ q (get_or threads k None)
-same-number q threads o k row is none this = set_item (λ (x : Option ThreadRow). q x ≡ q (get_or threads k None)) threads o k None None (λ at. none ∙ sym (ap (λ (n : ℕ). q (get_or threads n None)) at ∙ ap q is ∙ this)) refl
+same-number : (q : Option ThreadRow → ℕ) (threads : List (Option ThreadRow)) (o k : ℕ) (row : ThreadRow)
+    → get_or threads o None ≡ Some row → q None ≡ 0 → q (Some row) ≡ 0
+    → q (get_or (set threads o None) k None) ≡ q (get_or threads k None)
+same-number q threads o k row is none this =
+    set_item (λ (x : Option ThreadRow). q x ≡ q (get_or threads k None)) threads o k None None
+    (λ at. none ∙ sym (ap (λ (n : ℕ). q (get_or threads n None)) at ∙ ap q is ∙ this)) refl
 
-pub kernel-swept : (tables : List (List HandleSlot)) (threads : List (Option ThreadRow)) (o : ℕ) (p : ObjNo) → IsOver tables threads o → kernel_holds (get_or (set threads o None) p.0 None) ≡ kernel_holds (get_or threads p.0 None)
+pub kernel-swept : (tables : List (List HandleSlot)) (threads : List (Option ThreadRow)) (o : ℕ) (p : ObjNo)
+    → IsOver tables threads o
+    → kernel_holds (get_or (set threads o None) p.0 None) ≡ kernel_holds (get_or threads p.0 None)
 kernel-swept tables threads o p over = same-number kernel_holds threads o p.0 over.row over.is refl over.unheld
 
 -- a table that has no handle
-slot-empty : (tables : List (List HandleSlot)) (threads : List (Option ThreadRow)) (o k i : ℕ) (x : ObjNo) → IsOver tables threads o → k ≡ o → own_slot false x (slot_at (get_or tables k []) i) ≡ 0
+slot-empty : (tables : List (List HandleSlot)) (threads : List (Option ThreadRow)) (o k i : ℕ) (x : ObjNo)
+    → IsOver tables threads o → k ≡ o → own_slot false x (slot_at (get_or tables k []) i) ≡ 0
 slot-empty tables threads o k i x over at = ap (option_names x) (ap (λ (n : ℕ). (slot_at (get_or tables n []) i).object) at ∙ over.spent.empty i)
 
-pub rows-swept : (tables : List (List HandleSlot)) (threads : List (Option ThreadRow)) (mutexes : List (List ObjNo)) (o : ℕ) (g : Holder) (x : ObjNo) → IsOver tables threads o → rows_hold tables (set threads o None) mutexes g x ≡ rows_hold tables threads mutexes g x
+pub rows-swept : (tables : List (List HandleSlot)) (threads : List (Option ThreadRow)) (mutexes : List (List ObjNo))
+    (o : ℕ) (g : Holder) (x : ObjNo)
+    → IsOver tables threads o → rows_hold tables (set threads o None) mutexes g x ≡ rows_hold tables threads mutexes g x
 rows-swept tables threads mutexes o (InProcess p i) x over =
-    set_item (λ (y : Option ThreadRow). own_slot (is_some y) x (slot_at (get_or tables p.0 []) i) ≡ own_slot (is_some (get_or threads p.0 None)) x (slot_at (get_or tables p.0 []) i)) threads o p.0 None None
-    (λ at. slot-empty tables threads o p.0 i x over at ∙ sym (ap (λ (n : ℕ). own_slot (is_some (get_or threads n None)) x (slot_at (get_or tables p.0 []) i)) at ∙ ap (λ (y : Option ThreadRow). own_slot (is_some y) x (slot_at (get_or tables p.0 []) i)) over.is)) refl
+    set_item (λ (y : Option ThreadRow). own_slot (is_some y) x (slot_at (get_or tables p.0 []) i)
+    ≡ own_slot (is_some (get_or threads p.0 None)) x (slot_at (get_or tables p.0 []) i)) threads o p.0 None None
+    (λ at. slot-empty tables threads o p.0 i x over at
+    ∙ sym (ap (λ (n : ℕ). own_slot (is_some (get_or threads n None)) x (slot_at (get_or tables p.0 []) i)) at
+    ∙ ap (λ (y : Option ThreadRow). own_slot (is_some y) x (slot_at (get_or tables p.0 []) i)) over.is)) refl
 rows-swept tables threads mutexes o (InThread t i) x over =
-    set_item (λ (y : Option ThreadRow). own_slot (not (is_some y)) x (slot_at (get_or tables t.0 []) i) ≡ own_slot (not (is_some (get_or threads t.0 None))) x (slot_at (get_or tables t.0 []) i)) threads o t.0 None None
-    (λ at. sym (ap (λ (n : ℕ). own_slot (not (is_some (get_or threads n None))) x (slot_at (get_or tables t.0 []) i)) at ∙ ap (λ (y : Option ThreadRow). own_slot (not (is_some y)) x (slot_at (get_or tables t.0 []) i)) over.is ∙ slot-empty tables threads o t.0 i x over at)) refl
+    set_item (λ (y : Option ThreadRow). own_slot (not (is_some y)) x (slot_at (get_or tables t.0 []) i)
+    ≡ own_slot (not (is_some (get_or threads t.0 None))) x (slot_at (get_or tables t.0 []) i)) threads o t.0 None None
+    (λ at. sym (ap (λ (n : ℕ). own_slot (not (is_some (get_or threads n None))) x (slot_at (get_or tables t.0 []) i)) at
+    ∙ ap (λ (y : Option ThreadRow). own_slot (not (is_some y)) x (slot_at (get_or tables t.0 []) i)) over.is
+    ∙ slot-empty tables threads o t.0 i x over at)) refl
 rows-swept tables threads mutexes o (Temp t) x over = same-number (use_names x) threads o t.0 over.row over.is refl (ap (option_names x) over.spent.unused)
 rows-swept tables threads mutexes o (Link t) x over = same-number (link_names x) threads o t.0 over.row over.is refl (ap (option_names x) over.unlinked)
 rows-swept tables threads mutexes o Kernel x over = kernel-swept tables threads o x over

@@ -23,7 +23,10 @@ use Rattle.move_laws.proofs.References.Same.{same_object}
 use Rattle.move_laws.proofs.RowLaws.Threads.{length-with_row, row-kept}
 
 -- other rows of as many threads, in which each holder is one still
-pub synchronized-threads : (script : Script) (threads other : List (Option ThreadRow)) (r : NanoRows) → length other ≡ length threads → ((f : ℕ) (u : ObjNo) → holder_of r f ≡ Some u → IsHolder threads r u → IsHolder other r u) → AreSynchronized script threads r → AreSynchronized script other r
+pub synchronized-threads : (script : Script) (threads other : List (Option ThreadRow)) (r : NanoRows)
+    → length other ≡ length threads
+    → ((f : ℕ) (u : ObjNo) → holder_of r f ≡ Some u → IsHolder threads r u → IsHolder other r u)
+    → AreSynchronized script threads r → AreSynchronized script other r
 synchronized-threads script threads other r long holders h = record {
   rows = h.rows;
   sized = h.sized ∙ sym long;
@@ -36,12 +39,27 @@ abbrev pub IsHolding : ThreadRow → Type 0
 IsHolding row = (row.waiting ≡ waiting.Nothing) × (row.stage ≡ Live) × (served_queue row.role ≡ None) × (is_returning row.part ≡ false)
 
 -- a change of a row that begins no wait and no death
-pub synchronized-with_row : (script : Script) (threads : List (Option ThreadRow)) (t : ObjNo) (change : ThreadRow → ThreadRow) (r : NanoRows) → ((row : ThreadRow) → IsHolding row → IsHolding (change row)) → AreSynchronized script threads r → AreSynchronized script (with_row threads t change) r
+pub synchronized-with_row : (script : Script) (threads : List (Option ThreadRow)) (t : ObjNo)
+    (change : ThreadRow → ThreadRow) (r : NanoRows)
+    → ((row : ThreadRow) → IsHolding row → IsHolding (change row)) → AreSynchronized script threads r
+    → AreSynchronized script (with_row threads t change) r
 synchronized-with_row script threads t change r keeps h = synchronized-threads script threads (with_row threads t change) r (length-with_row threads t change)
-    (λ f u is held. let kept = row-kept threads t change u.0 held.row IsHolding keeps held.is (held.waits, held.live, held.serves, held.going) in record { row = kept.0; is = kept.1; live = kept.2.1; serves = kept.2.2; waits = kept.2.0; going = kept.2.3; wants = held.wants }) h
+    (λ f u is held. let kept = row-kept threads t change u.0 held.row IsHolding keeps held.is
+    (held.waits, held.live, held.serves, held.going) in
+    record {
+      row = kept.0;
+      is = kept.1;
+      live = kept.2.1;
+      serves = kept.2.2;
+      waits = kept.2.0;
+      going = kept.2.3;
+      wants = held.wants;
+    }) h
 
 -- any change of the row of a thread that holds no fast mutex
-pub synchronized-unheld : (script : Script) (threads : List (Option ThreadRow)) (t : ObjNo) (change : ThreadRow → ThreadRow) (r : NanoRows) → held_by r t ≡ None → AreSynchronized script threads r → AreSynchronized script (with_row threads t change) r
+pub synchronized-unheld : (script : Script) (threads : List (Option ThreadRow)) (t : ObjNo)
+    (change : ThreadRow → ThreadRow) (r : NanoRows)
+    → held_by r t ≡ None → AreSynchronized script threads r → AreSynchronized script (with_row threads t change) r
 synchronized-unheld script threads t change r none h = synchronized-threads script threads (with_row threads t change) r (length-with_row threads t change)
     (λ f u is held. record {
       row = held.row;
@@ -54,7 +72,10 @@ synchronized-unheld script threads t change r none h = synchronized-threads scri
     }) h
 
 -- any change of the row of a thread that is no holder
-pub synchronized-apart : (script : Script) (threads : List (Option ThreadRow)) (t : ObjNo) (change : ThreadRow → ThreadRow) (r : NanoRows) → ((f : ℕ) → holder_of r f ≡ Some t → ⊥) → AreSynchronized script threads r → AreSynchronized script (with_row threads t change) r
+pub synchronized-apart : (script : Script) (threads : List (Option ThreadRow)) (t : ObjNo)
+    (change : ThreadRow → ThreadRow) (r : NanoRows)
+    → ((f : ℕ) → holder_of r f ≡ Some t → ⊥) → AreSynchronized script threads r
+    → AreSynchronized script (with_row threads t change) r
 synchronized-apart script threads t change r none h = synchronized-threads script threads (with_row threads t change) r (length-with_row threads t change)
     (λ f u is held. record {
       row = held.row;
@@ -68,10 +89,23 @@ synchronized-apart script threads t change r none h = synchronized-threads scrip
 
 -- a holder in other rows that say the same of what it wants
 holder-rows : {threads : List (Option ThreadRow)} {r new : NanoRows} {u : ObjNo} → want_of new u ≡ want_of r u → IsHolder threads r u → IsHolder threads new u
-holder-rows same held = record { row = held.row; is = held.is; live = held.live; serves = held.serves; waits = held.waits; going = held.going; wants = same ∙ held.wants }
+holder-rows same held = record {
+  row = held.row;
+  is = held.is;
+  live = held.live;
+  serves = held.serves;
+  waits = held.waits;
+  going = held.going;
+  wants = same ∙ held.wants;
+}
 
 -- other counts of as many threads
-pub synchronized-counts : (script : Script) (threads : List (Option ThreadRow)) (r : NanoRows) (signals suspensions sections : List ℕ) → length signals ≡ length r.signals → AreNanoRows (record r { signals = signals; suspensions = suspensions; sections = sections }) → AreSynchronized script threads r → AreSynchronized script threads (record r { signals = signals; suspensions = suspensions; sections = sections })
+pub synchronized-counts : (script : Script) (threads : List (Option ThreadRow)) (r : NanoRows)
+    (signals suspensions sections : List ℕ)
+    → length signals ≡ length r.signals
+    → AreNanoRows (record r { signals = signals; suspensions = suspensions; sections = sections })
+    → AreSynchronized script threads r
+    → AreSynchronized script threads (record r { signals = signals; suspensions = suspensions; sections = sections })
 synchronized-counts script threads r signals suspensions sections long sound h = record {
   rows = sound;
   sized = long ∙ h.sized;
@@ -80,14 +114,35 @@ synchronized-counts script threads r signals suspensions sections long sound h =
 }
 
 -- a live thread takes a free fast mutex that waits for nothing and holds none, and wants none any more
-pub synchronized-take : (script : Script) (threads : List (Option ThreadRow)) (r : NanoRows) (t : ObjNo) (f : ℕ) (row : ThreadRow) → f < length r.holders → holder_of r f ≡ None → held_by r t ≡ None → get_or threads t.0 None ≡ Some row → row.stage ≡ Live → served_queue row.role ≡ None → row.waiting ≡ waiting.Nothing → is_returning row.part ≡ false → AreSynchronized script threads r → AreSynchronized script threads (after_want (after_take r t f) t None)
+pub synchronized-take : (script : Script) (threads : List (Option ThreadRow)) (r : NanoRows) (t : ObjNo) (f : ℕ)
+    (row : ThreadRow)
+    → f < length r.holders → holder_of r f ≡ None → held_by r t ≡ None → get_or threads t.0 None ≡ Some row
+    → row.stage ≡ Live → served_queue row.role ≡ None → row.waiting ≡ waiting.Nothing → is_returning row.part ≡ false
+    → AreSynchronized script threads r → AreSynchronized script threads (after_want (after_take r t f) t None)
 synchronized-take script threads r t f row below free none is live serves waits going h = rw free (record {
   rows = sound-want taken t None (λ g e. absurd (cc)) (rw free at (sound-take r t f known below free none h.rows));
   sized = h.sized;
   mutexes = length-set r.holders f (Some t) ∙ h.mutexes;
   holders = λ g u. set_item (λ (holder : Option ObjNo). holder ≡ Some u → IsHolder threads new u) r.holders f g (Some t) None
-      (λ _ e. let one : t ≡ u = cc in subst (IsHolder threads new) one (record { row = row; is = is; live = live; serves = serves; waits = waits; going = going; wants = get_or-set_same r.wants t.0 None None wanting }))
-      (λ e. let held = h.holders g u e in record { row = held.row; is = held.is; live = held.live; serves = held.serves; waits = held.waits; going = held.going; wants = set_item (λ (want : Option ℕ). want ≡ None) r.wants t.0 u.0 None None (λ _. refl) held.wants });
+      (λ _ e. let one : t ≡ u = cc in subst (IsHolder threads new) one
+      (record {
+        row = row;
+        is = is;
+        live = live;
+        serves = serves;
+        waits = waits;
+        going = going;
+        wants = get_or-set_same r.wants t.0 None None wanting;
+      }))
+      (λ e. let held = h.holders g u e in record {
+        row = held.row;
+        is = held.is;
+        live = held.live;
+        serves = held.serves;
+        waits = held.waits;
+        going = held.going;
+        wants = set_item (λ (want : Option ℕ). want ≡ None) r.wants t.0 u.0 None None (λ _. refl) held.wants;
+      });
 })
   where
     taken : NanoRows
@@ -103,7 +158,8 @@ synchronized-take script threads r t f row below free none is live serves waits 
     wanting = let long = h.rows.wants_sized in let lt = known in omega arith
 
 -- a thread gives a fast mutex up
-pub synchronized-give : (script : Script) (threads : List (Option ThreadRow)) (r : NanoRows) (t : ObjNo) (f : ℕ) → AreSynchronized script threads r → AreSynchronized script threads (after_give r t f)
+pub synchronized-give : (script : Script) (threads : List (Option ThreadRow)) (r : NanoRows) (t : ObjNo) (f : ℕ)
+    → AreSynchronized script threads r → AreSynchronized script threads (after_give r t f)
 synchronized-give script threads r t f h = by (is_holder r t f) (sound-give r t f h.rows)
   where
     new : Bool → NanoRows
@@ -119,7 +175,10 @@ synchronized-give script threads r t f h = by (is_holder r t f) (sound-give r t 
     }
 
 -- a thread wants a fast mutex or none; one that holds one wants none
-pub synchronized-want : (script : Script) (threads : List (Option ThreadRow)) (r : NanoRows) (t : ObjNo) (want : Option ℕ) → ((f : ℕ) → want ≡ Some f → f < length r.holders) → ((f : ℕ) → holder_of r f ≡ Some t → want ≡ None) → AreSynchronized script threads r → AreSynchronized script threads (after_want r t want)
+pub synchronized-want : (script : Script) (threads : List (Option ThreadRow)) (r : NanoRows) (t : ObjNo)
+    (want : Option ℕ)
+    → ((f : ℕ) → want ≡ Some f → f < length r.holders) → ((f : ℕ) → holder_of r f ≡ Some t → want ≡ None)
+    → AreSynchronized script threads r → AreSynchronized script threads (after_want r t want)
 synchronized-want script threads r t want known unless h = record {
   rows = sound-want r t want known h.rows;
   sized = h.sized;
@@ -131,6 +190,8 @@ synchronized-want script threads r t want known unless h = record {
     serves = held.serves;
     waits = held.waits;
     going = held.going;
-    wants = set_item (λ (w : Option ℕ). w ≡ None) r.wants t.0 u.0 want None (λ at. unless f (subst (λ (v : ObjNo). holder_of r f ≡ Some v) (same_object u t at) is)) held.wants;
+    wants =
+        set_item (λ (w : Option ℕ). w ≡ None) r.wants t.0 u.0 want None
+        (λ at. unless f (subst (λ (v : ObjNo). holder_of r f ≡ Some v) (same_object u t at) is)) held.wants;
   };
 }

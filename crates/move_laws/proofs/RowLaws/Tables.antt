@@ -21,7 +21,8 @@ pub record IsSlot (slot : HandleSlot) : Type 0 where
 abbrev pub KeepsSlot : (HandleSlot → HandleSlot) → Type 0
 KeepsSlot f = (slot : HandleSlot) → IsSlot slot → IsSlot (f slot)
 
-table-with_slot : (table : List HandleSlot) (i : ℕ) (f : HandleSlot → HandleSlot) → KeepsSlot f → IsTable table → IsTable (slice_set table i (f (slot_at table i)))
+table-with_slot : (table : List HandleSlot) (i : ℕ) (f : HandleSlot → HandleSlot) → KeepsSlot f → IsTable table
+    → IsTable (slice_set table i (f (slot_at table i)))
 table-with_slot table i f keeps h = record {
   size = length-set table i (f (slot_at table i)) ∙ h.size;
   instances = λ j. (each j).few;
@@ -34,17 +35,21 @@ table-with_slot table i f keeps h = record {
     each : (j : ℕ) → IsSlot (slot_at (slice_set table i (f (slot_at table i))) j)
     each = set_keeps IsSlot table i (f (slot_at table i)) fresh_slot (keeps (slot_at table i) (is_slot i)) is_slot
 
-pub length-with_slot : (tables : List (List HandleSlot)) (owner : ObjNo) (i : ℕ) (f : HandleSlot → HandleSlot) → length (with_slot tables owner i f) ≡ length tables
+pub length-with_slot : (tables : List (List HandleSlot)) (owner : ObjNo) (i : ℕ) (f : HandleSlot → HandleSlot)
+    → length (with_slot tables owner i f) ≡ length tables
 length-with_slot tables owner i f = length-set tables owner.0 (slice_set (get_or tables owner.0 []) i (f (slot_at (get_or tables owner.0 []) i)))
 
-pub tables-with_slot : (tables : List (List HandleSlot)) (owner : ObjNo) (i : ℕ) (f : HandleSlot → HandleSlot) → KeepsSlot f → AreTables tables → AreTables (with_slot tables owner i f)
+pub tables-with_slot : (tables : List (List HandleSlot)) (owner : ObjNo) (i : ℕ) (f : HandleSlot → HandleSlot)
+    → KeepsSlot f → AreTables tables → AreTables (with_slot tables owner i f)
 tables-with_slot tables owner i f keeps h k inside =
     let table = slice_set (get_or tables owner.0 []) i (f (slot_at (get_or tables owner.0 []) i)) in
     let long = length-with_slot tables owner i f in
     elim (cases_eq owner.0 k) as (λ _. IsTable (get_or (slice_set tables owner.0 table) k [])) [
       | inl at ↦
           let here : owner.0 < length tables = omega arith in
-          subst (λ (n : ℕ). IsTable (get_or (slice_set tables owner.0 table) n [])) at (subst IsTable (sym (get_or-set_same tables owner.0 table [] here)) (table-with_slot (get_or tables owner.0 []) i f keeps (h owner.0 here)))
+          subst (λ (n : ℕ). IsTable (get_or (slice_set tables owner.0 table) n [])) at
+          (subst IsTable (sym (get_or-set_same tables owner.0 table [] here))
+          (table-with_slot (get_or tables owner.0 []) i f keeps (h owner.0 here)))
       | inr apart ↦ subst IsTable (sym (get_or-set_other tables owner.0 k table [] (λ e. apart (sym e)))) (h k (omega arith))
     ]
 
@@ -57,7 +62,10 @@ next_instance_some n true = omega arith
 next_instance_some n false = omega arith
 
 pub taken_keeps : (o : ObjNo) → KeepsSlot (taken_slot o)
-taken_keeps o slot h = record { few = next_instance_few slot.instance (slot.instance == 16383) refl h.few; counted = λ x e. next_instance_some slot.instance (slot.instance == 16383) }
+taken_keeps o slot h = record {
+  few = next_instance_few slot.instance (slot.instance == 16383) refl h.few;
+  counted = λ x e. next_instance_some slot.instance (slot.instance == 16383);
+}
 
 pub freed_keeps : KeepsSlot freed_slot
 freed_keeps slot h = record { few = h.few; counted = λ o e. cc }
@@ -77,7 +85,9 @@ free_index_inside slots h =
     let apart : free_index slots ≢ length slots = λ e. cc (eq-eqb (free_index slots) (length slots) e) in
     omega arith
 
-free_index_is_free_step : (slot : HandleSlot) (slots : List HandleSlot) (x : Option ObjNo) → slot.object ≡ x → (slot_at slots (free_index slots)).object ≡ None → (get_or (slot ∷ slots) (if is_none x then 0 else free_index slots + 1) fresh_slot).object ≡ None
+free_index_is_free_step : (slot : HandleSlot) (slots : List HandleSlot) (x : Option ObjNo) → slot.object ≡ x
+    → (slot_at slots (free_index slots)).object ≡ None
+    → (get_or (slot ∷ slots) (if is_none x then 0 else free_index slots + 1) fresh_slot).object ≡ None
 free_index_is_free_step slot slots None e r = e
 free_index_is_free_step slot slots (Some x) e r = rw add-one r
 

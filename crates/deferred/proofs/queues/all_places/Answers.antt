@@ -11,4 +11,7 @@ one_more xs made n m x is more =
 
 pub loop-number-preserved : goal.loop-number-preserved
 loop-number-preserved c =
-    c.in_ok-push.ensures.items ∙ one_more c.args.dfcs.now c.loop-number.places.items (c.loop-number._number - length c.args.dfcs.now) (c.loop-number._number + 1 - length c.args.dfcs.now) burial c.loop-number.invariant (omega (arith, c.loop-number.auto._number))
+    c.in_ok-push.ensures.items
+    ∙ one_more c.args.dfcs.now c.loop-number.places.items (c.loop-number._number - length c.args.dfcs.now)
+    (c.loop-number._number + 1 - length c.args.dfcs.now) burial c.loop-number.invariant
+    (omega (arith, c.loop-number.auto._number))

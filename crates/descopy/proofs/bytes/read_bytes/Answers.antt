@@ -11,6 +11,7 @@ loop-k-preserved c =
       take_more_set c.loop-k.piece c.loop-k.k c.byte_at.result inside
           ∙ (ap (λ (l : List ℕ). l ++ c.byte_at.result ∷ []) c.loop-k.invariant.0
           ∙ (ap (λ (b : ℕ). bytes_from c.args.procs.now.processes c.args.from c.loop-k.k ++ b ∷ []) c.byte_at.ensures
-          ∙ sym (map-range_with_len_more (byte_of c.args.procs.now.processes c.args.from.process) c.args.from.at c.loop-k.k (c.args.from.at + c.loop-k.k) refl))),
+          ∙ sym (map-range_with_len_more (byte_of c.args.procs.now.processes c.args.from.process) c.args.from.at
+          c.loop-k.k (c.args.from.at + c.loop-k.k) refl))),
       length-set c.loop-k.piece c.loop-k.k c.byte_at.result ∙ size,
     )

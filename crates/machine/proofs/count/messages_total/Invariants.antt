@@ -4,6 +4,7 @@ use Rattle.machine.proofs.count.messages_total.Given as goal
 
 abbrev pub invariant-loop-message : goal.invariant-loop-message
 invariant-loop-message l = record {
-  rest : min (l.count + total (message_names l.object) (drop l.message-index l.outstanding)) (2 ^ 32 - 1) ≡ min (total (message_names l.object) l.outstanding) (2 ^ 32 - 1);
+  rest : min (l.count + total (message_names l.object) (drop l.message-index l.outstanding)) (2 ^ 32 - 1)
+      ≡ min (total (message_names l.object) l.outstanding) (2 ^ 32 - 1);
   fits : l.count ≤ 2 ^ 32 - 1;
 }

@@ -4,6 +4,7 @@ use Rattle.machine.proofs.count.sessions_total.Given as goal
 
 abbrev pub invariant-loop-session : goal.invariant-loop-session
 invariant-loop-session l = record {
-  rest : min (l.count + total (session_names l.object) (drop l.session-index l.sessions)) (2 ^ 32 - 1) ≡ min (total (session_names l.object) l.sessions) (2 ^ 32 - 1);
+  rest : min (l.count + total (session_names l.object) (drop l.session-index l.sessions)) (2 ^ 32 - 1)
+      ≡ min (total (session_names l.object) l.sessions) (2 ^ 32 - 1);
   fits : l.count ≤ 2 ^ 32 - 1;
 }

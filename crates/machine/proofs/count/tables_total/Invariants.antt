@@ -4,6 +4,7 @@ use Rattle.machine.proofs.count.tables_total.Given as goal
 
 abbrev pub invariant-loop-table : goal.invariant-loop-table
 invariant-loop-table l = record {
-  rest : min (l.count + total (total (slot_names l.object)) (drop l.table-index l.tables)) (2 ^ 32 - 1) ≡ min (total (total (slot_names l.object)) l.tables) (2 ^ 32 - 1);
+  rest : min (l.count + total (total (slot_names l.object)) (drop l.table-index l.tables)) (2 ^ 32 - 1)
+      ≡ min (total (total (slot_names l.object)) l.tables) (2 ^ 32 - 1);
   fits : l.count ≤ 2 ^ 32 - 1;
 }

@@ -6,4 +6,8 @@ use Rattle.machine.proofs.Sought.{any_is_out}
 use Rattle.machine.proofs.returning.is_sought.Goals as goal
 
 pub returns-then-state : goal.returns-then-state
-returns-then-state c = c.is_sought_by.ensures ∙ ap (λ (rows : List (Option ThreadRow)). list_any (λ row. nat_lt 0 (seeks c.args.object row)) rows) c.as_slice.ensures ∙ any_is_out c.args.state.now c.args.object c.if-state.true
+returns-then-state c =
+    c.is_sought_by.ensures
+    ∙ ap (λ (rows : List (Option ThreadRow)). list_any (λ row. nat_lt 0 (seeks c.args.object row)) rows)
+    c.as_slice.ensures
+    ∙ any_is_out c.args.state.now c.args.object c.if-state.true

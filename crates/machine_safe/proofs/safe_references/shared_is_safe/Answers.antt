@@ -5,4 +5,12 @@ use Rattle.std.proofs.Common.{true}
 pub returns : goal.returns
 returns c =
     let safe = legal_safety true c.args.script.now c.args.history.now c.requires.valid c.requires.legal in
-    record { safe = safe.references; deaths = safe.deaths; messages = safe.messages; servers = safe.servers; busy = safe.busy; waits = safe.waits; weights = safe.weights }
+    record {
+      safe = safe.references;
+      deaths = safe.deaths;
+      messages = safe.messages;
+      servers = safe.servers;
+      busy = safe.busy;
+      waits = safe.waits;
+      weights = safe.weights;
+    }

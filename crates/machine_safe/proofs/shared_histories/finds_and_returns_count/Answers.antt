@@ -3,4 +3,8 @@ use Rattle.machine_safe.proofs.FindsCounted.{finds-counted}
 use Rattle.machine_safe.proofs.SharedRuns.{comes-next-all, returns-all}
 
 pub returns : goal.returns
-returns c = record { counted = finds-counted _ _ c.requires.valid c.requires.shared; returns = returns-all _ _ c.requires.valid c.requires.shared; next = comes-next-all _ _ c.requires.valid c.requires.shared }
+returns c = record {
+  counted = finds-counted _ _ c.requires.valid c.requires.shared;
+  returns = returns-all _ _ c.requires.valid c.requires.shared;
+  next = comes-next-all _ _ c.requires.valid c.requires.shared;
+}

@@ -6,4 +6,6 @@ use Rattle.script_types.specs.declared.declaration.IrqBody.{IrqBody}
 use Rattle.next_actions.proofs.bodies.irq_place.Goals as goal
 
 pub returns : goal.returns
-returns c = position_from_yields_List (λ (irq : IrqBody). irq.number == c.args.number) _ _ _ c.position.ensures.ran (YieldsList-from_slice c.args.script.now.irqs cc) (λ x b q k. search (rules, tests))
+returns c =
+    position_from_yields_List (λ (irq : IrqBody). irq.number == c.args.number) _ _ _ c.position.ensures.ran
+    (YieldsList-from_slice c.args.script.now.irqs cc) (λ x b q k. search (rules, tests))

@@ -10,7 +10,8 @@ loop-k-preserved c =
     let inside : c.loop-k.k < length c.loop-k.piece = omega (arith, size) in (
       take_more_set c.loop-k.piece c.loop-k.k c.byte_at.result inside
           ∙ (ap (λ (l : List ℕ). l ++ c.byte_at.result ∷ []) c.loop-k.invariant.0
-          ∙ (ap (λ (b : ℕ). bytes_from c.args.memories.now (record { process = c.args.from.process; at = c.args.from.at }) c.loop-k.k ++ b ∷ []) c.byte_at.ensures
+          ∙ (ap (λ (b : ℕ). bytes_from c.args.memories.now
+          (record { process = c.args.from.process; at = c.args.from.at }) c.loop-k.k ++ b ∷ []) c.byte_at.ensures
           ∙ sym (map-range_with_len_more (byte_of c.args.memories.now c.args.from.process) c.args.from.at c.loop-k.k (c.args.from.at + c.loop-k.k) refl))),
       length-set c.loop-k.piece c.loop-k.k c.byte_at.result ∙ size,
     )

@@ -24,4 +24,7 @@ pub returns : goal.returns
 returns c =
     let alive = told_alive c.args.change.now c.args.state.now in
     let dead = dead_told (dead_by c.args.change.now c.args.state.now) in
-    c.tell_death.ensures ∙ rw (c.tell.ensures, c.dead_by-dead.ensures) (append_assoc c.args.effects.now alive dead ∙ ap (λ (l : List Effect). c.args.effects.now ++ l) (sym (told_dead c.args.change.now c.args.state.now)))
+    c.tell_death.ensures
+    ∙ rw (c.tell.ensures, c.dead_by-dead.ensures)
+    (append_assoc c.args.effects.now alive dead
+    ∙ ap (λ (l : List Effect). c.args.effects.now ++ l) (sym (told_dead c.args.change.now c.args.state.now)))

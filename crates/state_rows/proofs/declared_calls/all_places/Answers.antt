@@ -14,4 +14,7 @@ pub loop-number-preserved : goal.loop-number-preserved
 loop-number-preserved c =
     let dfcs = c.args.script.now.dfcs in
     let long : length c.in_ok-places.places.items ≡ length dfcs = ap length c.in_ok-places.ensures.places ∙ length-map dfcs (place_of c.args.script.now) in
-    c.in_ok-push.ensures.items ∙ one_more (map (place_of c.args.script.now) dfcs) c.loop-number.places.items (c.loop-number._number - length dfcs) (c.loop-number._number + 1 - length dfcs) burial c.loop-number.invariant (omega (arith, c.loop-number.auto._number, c.len-number.ensures, long))
+    c.in_ok-push.ensures.items
+    ∙ one_more (map (place_of c.args.script.now) dfcs) c.loop-number.places.items (c.loop-number._number - length dfcs)
+    (c.loop-number._number + 1 - length dfcs) burial c.loop-number.invariant
+    (omega (arith, c.loop-number.auto._number, c.len-number.ensures, long))

@@ -12,11 +12,15 @@ use Rattle.sym_base.proofs.decimal.read_number.Goals as goal
 
 -- the text of a number is UTF-8
 number_utf8 : (word : List ℕ) (n : ℤ) → FitsSigned w64 n → signed_decimal n ≡ word → IsUtf8 word
-number_utf8 word n fits same = let small : mag n < 2 ^ 63 = (let h = fits.sfits in omega arith) in rw (← same) (IsUtf8-from_ascii (signed_decimal n) (IsAscii-signed n small))
+number_utf8 word n fits same =
+    let small : mag n < 2 ^ 63 = (let h = fits.sfits in omega arith) in
+    rw (← same) (IsUtf8-from_ascii (signed_decimal n) (IsAscii-signed n small))
 
 -- and is read as that number
 number_parses : {E : Type 0} (word : List ℕ) (r : Result ℤ E) (n : ℤ) → FitsSigned w64 n → signed_decimal n ≡ word → ParsesSigned w64 10 word r → r ≡ Ok n
-number_parses word r n fits same parses = let small : mag n < 2 ^ 63 = (let h = fits.sfits in omega arith) in parse-signed_decimal w64 n word r fits small (sym same) parses
+number_parses word r n fits same parses =
+    let small : mag n < 2 ^ 63 = (let h = fits.sfits in omega arith) in
+    parse-signed_decimal w64 n word r fits small (sym same) parses
 
 ok_same : {E : Type 0} (r : Result ℤ E) (m n : ℤ) → r ≡ Ok m → r ≡ Ok n → m ≡ n
 ok_same r m n one other = cc

@@ -15,4 +15,6 @@ returns c =
     let exit = c.args.exit in
     let ended = with_row old.threads t waited in
     rw (c.set_stage.ensures, c.set_exit.ensures, c.end_wait.ensures)
-    (ap (with_threads old) (ap (λ (threads : List (Option ThreadRow)). with_row threads t (with_stage Doomed)) (row_twice old.threads t waited (with_exit exit)) ∙ row_twice old.threads t (λ row. with_exit exit (waited row)) (with_stage Doomed)))
+    (ap (with_threads old) (ap (λ (threads : List (Option ThreadRow)). with_row threads t (with_stage Doomed))
+    (row_twice old.threads t waited (with_exit exit))
+    ∙ row_twice old.threads t (λ row. with_exit exit (waited row)) (with_stage Doomed)))

@@ -18,7 +18,14 @@ drop_on-requires c =
     rw c.loop-on.invariant (
       omega arith,
       c.requires.0,
-      omega (arith, inside, length-append front more, length-map (take c.loop-on.on all) (without_maker c.args.by), length-take c.loop-on.on all, length-drop c.loop-on.on all),
+      omega (
+        arith,
+        inside,
+        length-append front more,
+        length-map (take c.loop-on.on all) (without_maker c.args.by),
+        length-take c.loop-on.on all,
+        length-drop c.loop-on.on all,
+      ),
       λ s some.
           let here = counts_here c.args.by s all c.loop-on.on in
           let same = list_later (without_maker c.args.by) all c.loop-on.on [] inside in
@@ -33,7 +40,9 @@ loop-on-preserved c =
     let all = old.logons in
     let inside : c.loop-on.on < length all = let long = c.requires.2 in omega arith in
     c.drop_on.ensures
-    ∙ (ap (λ (x : Lists). let lists : Lists = record x { logons = set x.logons c.loop-on.on (without_maker c.args.by (get_or x.logons c.loop-on.on [])) } in lists) c.loop-on.invariant
+    ∙ (ap (λ (x : Lists). let lists : Lists = record x
+    { logons = set x.logons c.loop-on.on (without_maker c.args.by (get_or x.logons c.loop-on.on [])) } in
+    lists) c.loop-on.invariant
     ∙ ap (λ (logons : List (List (ObjNo × ℕ))). let lists : Lists = record old { logons = logons } in lists)
     (list_done (without_maker c.args.by) all c.loop-on.on inside))
 
@@ -44,4 +53,5 @@ returns c =
     let past : length all ≤ c.loop-on.on = let a = c.loop-on-test.false in let long = c.requires.2 in omega arith in
     c.loop-on.invariant
     ∙ ap (λ (logons : List (List (ObjNo × ℕ))). let lists : Lists = record old { logons = logons } in lists)
-    (ap (λ l. map (without_maker c.args.by) (take c.loop-on.on all) ++ l) (drop_all c.loop-on.on all past) ∙ (append-nil _ ∙ ap (map (without_maker c.args.by)) (take_all c.loop-on.on all past)))
+    (ap (λ l. map (without_maker c.args.by) (take c.loop-on.on all) ++ l) (drop_all c.loop-on.on all past)
+    ∙ (append-nil _ ∙ ap (map (without_maker c.args.by)) (take_all c.loop-on.on all past)))

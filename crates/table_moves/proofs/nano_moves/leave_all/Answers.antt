@@ -21,4 +21,6 @@ loop-left-preserved c =
     let with : List ℕ → NanoRows = λ l. record r { sections = l } in
     let left : ℕ = critical_count r t - c.loop-left._left in
     let less : left - 1 ≡ critical_count r t - (c.loop-left._left + 1) = omega arith in
-    c.leave.ensures.after ∙ (ap (λ (n : NanoRows). after_leave n t) c.loop-left.invariant ∙ (ap with (one_less r.sections t.0 left) ∙ ap (λ (k : ℕ). with (set r.sections t.0 k)) less))
+    c.leave.ensures.after
+    ∙ (ap (λ (n : NanoRows). after_leave n t) c.loop-left.invariant
+    ∙ (ap with (one_less r.sections t.0 left) ∙ ap (λ (k : ℕ). with (set r.sections t.0 k)) less))

@@ -21,4 +21,6 @@ loop-left-preserved c =
     let with : List ℕ → NanoRows = λ l. record r { suspensions = l } in
     let left : ℕ = suspend_count r t - c.loop-left._left in
     let less : left - 1 ≡ suspend_count r t - (c.loop-left._left + 1) = omega arith in
-    c.resume.ensures.after ∙ (ap (λ (n : NanoRows). after_resume n t) c.loop-left.invariant ∙ (ap with (one_less r.suspensions t.0 left) ∙ ap (λ (k : ℕ). with (set r.suspensions t.0 k)) less))
+    c.resume.ensures.after
+    ∙ (ap (λ (n : NanoRows). after_resume n t) c.loop-left.invariant
+    ∙ (ap with (one_less r.suspensions t.0 left) ∙ ap (λ (k : ℕ). with (set r.suspensions t.0 k)) less))

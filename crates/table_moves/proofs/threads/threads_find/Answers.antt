@@ -8,4 +8,5 @@ use Rattle.table_moves.proofs.threads.threads_find.Goals as goal
 pub returns : goal.returns
 returns c =
     let old = c.args.procs.now in
-    rw (c.threads_go_on.ensures, c.threads_keep.ensures, c.from.ensures) (ap (with_threads old) (row_twice old.threads c.args.thread (with_kept c.args.object.0) (with_part Return)))
+    rw (c.threads_go_on.ensures, c.threads_keep.ensures, c.from.ensures)
+    (ap (with_threads old) (row_twice old.threads c.args.thread (with_kept c.args.object.0) (with_part Return)))

@@ -7,4 +7,6 @@ use Rattle.table_moves.proofs.threads.threads_open.Goals as goal
 pub returns : goal.returns
 returns c =
     let old = c.args.procs.now in
-    rw (c.threads_go_on.ensures, c.set_use.ensures) (ap (with_threads old) (row_twice old.threads c.args.thread (with_use (Some c.args.object)) (with_part c.args.part)))
+    rw (c.threads_go_on.ensures, c.set_use.ensures)
+    (ap (with_threads old) (row_twice old.threads c.args.thread (with_use (Some c.args.object))
+    (with_part c.args.part)))

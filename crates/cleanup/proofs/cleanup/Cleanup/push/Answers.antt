@@ -22,17 +22,26 @@ pub push-requires-in-Logon-clause-free : goal.push-requires-in-Logon-clause-free
 push-requires-in-Logon-clause-free c =
     let known = rw (← c.self.view_is, c.in-Logon.is) at c.requires.known in
     let place = rw (← c.self.view_is, c.in-Logon.is) at c.requires.place in
-    rw c.logon_item.ensures (λ linked. place (seen_any logon (is_logon c.in-Logon.u c.in-Logon.status) (16 * c.in-Logon.u.0 + c.in-Logon.status) (logon_tells c.in-Logon.u c.in-Logon.status known.1) c.self.inside.logons.lists ∙ linked))
+    rw c.logon_item.ensures (λ linked. place
+    (seen_any logon (is_logon c.in-Logon.u c.in-Logon.status) (16 * c.in-Logon.u.0 + c.in-Logon.status)
+    (logon_tells c.in-Logon.u c.in-Logon.status known.1) c.self.inside.logons.lists ∙ linked))
 
 pub returns-in-Mutex : goal.returns-in-Mutex
 returns-in-Mutex c =
-    rw (← c.self.view_is, c.in-Mutex.is, c.push.ensures) (ap (λ (lists : List (List ObjNo)). record (the_view c.self.inside) { mutexes = lists }) (seen_pushed object c.in-Mutex.o.0 c.in-Mutex.o refl c.self.inside.mutexes.lists c.args.t.0))
+    rw (← c.self.view_is, c.in-Mutex.is, c.push.ensures)
+    (ap (λ (lists : List (List ObjNo)). record (the_view c.self.inside) { mutexes = lists })
+    (seen_pushed object c.in-Mutex.o.0 c.in-Mutex.o refl c.self.inside.mutexes.lists c.args.t.0))
 
 pub returns-in-Server : goal.returns-in-Server
 returns-in-Server c =
-    rw (← c.self.view_is, c.in-Server.is, c.push-in-Server.ensures) (ap (λ (lists : List (List ObjNo)). record (the_view c.self.inside) { servers = lists }) (seen_pushed object c.in-Server.o.0 c.in-Server.o refl c.self.inside.servers.lists c.args.t.0))
+    rw (← c.self.view_is, c.in-Server.is, c.push-in-Server.ensures)
+    (ap (λ (lists : List (List ObjNo)). record (the_view c.self.inside) { servers = lists })
+    (seen_pushed object c.in-Server.o.0 c.in-Server.o refl c.self.inside.servers.lists c.args.t.0))
 
 pub returns-in-Logon : goal.returns-in-Logon
 returns-in-Logon c =
     let known = rw (← c.self.view_is, c.in-Logon.is) at c.requires.known in
-    rw (← c.self.view_is, c.in-Logon.is, c.push-in-Logon.ensures, c.logon_item.ensures) (ap (λ (lists : List (List (ObjNo × ℕ))). record (the_view c.self.inside) { logons = lists }) (seen_pushed logon (16 * c.in-Logon.u.0 + c.in-Logon.status) (c.in-Logon.u, c.in-Logon.status) (logon_at c.in-Logon.u c.in-Logon.status known.1) c.self.inside.logons.lists c.args.t.0))
+    rw (← c.self.view_is, c.in-Logon.is, c.push-in-Logon.ensures, c.logon_item.ensures)
+    (ap (λ (lists : List (List (ObjNo × ℕ))). record (the_view c.self.inside) { logons = lists })
+    (seen_pushed logon (16 * c.in-Logon.u.0 + c.in-Logon.status) (c.in-Logon.u, c.in-Logon.status)
+    (logon_at c.in-Logon.u c.in-Logon.status known.1) c.self.inside.logons.lists c.args.t.0))

@@ -24,6 +24,10 @@ invariant_of-self-2 c =
     let inside : p < length own = subst (λ xs. p < length xs) was.seated.own_is (known_placed k.own p known) in
     let read = get_or_read own p _ inside c.index-count.ensures 0 in
     elim c.else-count-eq1.branch [
-      | else-count-eq1-via-then-count-eq1+else-close_last w ↦ rw w.self-inside-is (whole_closed _ own _ _ p _ c.self.inside.seat w.close_last.new.seat c.close.new.seat was known read (inl w.if-close_last.ensures.knows) (rw w.self-inside-is at c.close.ensures))
-      | else-count-eq1-via-else-count-eq1 w ↦ rw w.self-inside-is (whole_closed _ own _ _ p _ c.self.inside.seat c.self.inside.seat c.close.new.seat was known read (inr refl) (rw w.self-inside-is at c.close.ensures))
+      | else-count-eq1-via-then-count-eq1+else-close_last w ↦
+          rw w.self-inside-is (whole_closed _ own _ _ p _ c.self.inside.seat w.close_last.new.seat c.close.new.seat was
+          known read (inl w.if-close_last.ensures.knows) (rw w.self-inside-is at c.close.ensures))
+      | else-count-eq1-via-else-count-eq1 w ↦
+          rw w.self-inside-is (whole_closed _ own _ _ p _ c.self.inside.seat c.self.inside.seat c.close.new.seat was
+          known read (inr refl) (rw w.self-inside-is at c.close.ensures))
     ]

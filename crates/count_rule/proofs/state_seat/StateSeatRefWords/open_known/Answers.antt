@@ -17,7 +17,11 @@ invariant_of-self c =
     let read = get_or_read c.self.inside.own.items p _ inside c.index_mut.ensures.value 0 in
     let one_more : own_of k p + 1 ≡ c.index_mut.result.now + 1 = ap (λ xs. get_or xs p 0 + 1) was.seated.own_is ∙ ap (λ n. n + 1) (sym read) in
     let new = opening_known p k in record {
-      seated = seated_by _ _ _ c.self.inside.seat c.open_known.new.seat new was.seated c.open_known.ensures was.seated.calm (kept_opened _ _ was.seated.kept known low) (ap (λ xs. set xs p (own_of k p + 1)) was.seated.own_is ∙ ap (λ n. set c.self.inside.own.items p n) one_more) (length-set _ _ _);
+      seated =
+          seated_by _ _ _ c.self.inside.seat c.open_known.new.seat new was.seated c.open_known.ensures was.seated.calm
+          (kept_opened _ _ was.seated.kept known low)
+          (ap (λ xs. set xs p (own_of k p + 1)) was.seated.own_is ∙ ap (λ n. set c.self.inside.own.items p n) one_more)
+          (length-set _ _ _);
       same_table = was.same_table;
       has_room = was.has_room;
       in_all = out_by _ c.self.inside.seat c.open_known.new.seat new c.open_known.ensures was.in_all;

@@ -17,11 +17,19 @@ invariant_of-self c =
     let few = subst (λ (w : Words). length w.out < 64) (sym c.self.view_is) c.requires.few_out in
     let items = c.pop.ensures.items ∙ ap (λ x. c.pop.new.self.items ++ option_to_list x) c.unwrap.ensures in
     let new = sending p k in record {
-      seated = seated_by _ _ _ c.self.inside.seat c.split-seat.new.seat new was.seated c.split-seat.ensures.knows was.seated.calm (kept_sent _ _ was.seated.kept made low few) was.seated.own_is refl;
+      seated =
+          seated_by _ _ _ c.self.inside.seat c.split-seat.new.seat new was.seated c.split-seat.ensures.knows was.seated.calm
+          (kept_sent _ _ was.seated.kept made low few) was.seated.own_is refl;
       same_table = all_front _ _ _ c.unwrap.result items was.same_table;
       has_room = omega (arith, was.has_room, c.pop.ensures.capacity);
       in_all = out_by _ c.self.inside.seat c.split-seat.new.seat new c.split-seat.ensures.knows
-          (omega (arith, was.in_all, ap length items, length-append c.pop.new.self.items (c.unwrap.result ∷ []), length-append k.out (record { place = p; number = k.made + 1 } ∷ [])));
+          (omega (
+            arith,
+            was.in_all,
+            ap length items,
+            length-append c.pop.new.self.items (c.unwrap.result ∷ []),
+            length-append k.out (record { place = p; number = k.made + 1 } ∷ []),
+          ));
     }
 
 pub invariant_of-result : goal.invariant_of-result
@@ -32,7 +40,8 @@ invariant_of-result c =
     let slip = ap (λ m. slip_of m.0) ticket in
     let share = all_last _ _ _ c.unwrap.result items was.same_table in
     let made = subst (λ (w : Words). IsCreated w c.args.place) (sym c.self.view_is) c.requires.created in
-    let placed : c.args.place < length c.self.inside.own.items = subst (λ xs. c.args.place < length xs) was.seated.own_is (created_placed _ _ was.seated.kept made) in
+    let placed : c.args.place < length c.self.inside.own.items = subst
+    (λ xs. c.args.place < length xs) was.seated.own_is (created_placed _ _ was.seated.kept made) in
     record {
       table_is = c.split-seat.ensures.table ∙ c.table.ensures ∙ sym share;
       ticket = ticket ∙ ap (λ slip. (Ticket slip None, [])) (sym slip);

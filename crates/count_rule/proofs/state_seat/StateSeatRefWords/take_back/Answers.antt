@@ -24,7 +24,9 @@ invariant_of-self c =
     ∙ ap (λ (x : List ℕ × ℕ). set x.0 x.1 (get_or x.0 x.1 0 + 1)) (λ i. (was.seated.own_is i, c.note.invariant.place_is i))
     ∙ ap (λ (n : ℕ). set own note.place (n + 1)) (sym read) in
     let out = out_back _ _ seat c.join.new.seat c.look.new.seat slip found was.seated c.join.ensures c.look.ensures.knows c.look.ensures.was_out in record {
-      seated = seated_back _ _ _ seat c.join.new.seat c.look.new.seat slip found was.seated c.join.ensures c.look.ensures.knows c.look.ensures.was_out after (length-set _ _ _);
+      seated =
+          seated_back _ _ _ seat c.join.new.seat c.look.new.seat slip found was.seated c.join.ensures c.look.ensures.knows
+          c.look.ensures.was_out after (length-set _ _ _);
       same_table = all_more _ _ _ note.share c.push_reserved.ensures.items was.same_table share;
       has_room = omega (arith, was.has_room, c.push_reserved.ensures.capacity);
       in_all = omega (arith, was.in_all, ap length c.push_reserved.ensures.items, length-append c.self.inside.shares.items (note.share ∷ []), out);
@@ -39,7 +41,9 @@ invariant_of-self-in-Dead c =
     let share = sym c.note.invariant.table_is ∙ tables ∙ was.seated.kernels.0 in
     let after = ap (λ f. own_found f (words_of [] k) slip.place) dead ∙ was.seated.own_is in
     let out = out_back _ _ seat c.join.new.seat c.look.new.seat slip found was.seated c.join.ensures c.look.ensures.knows c.look.ensures.was_out in record {
-      seated = seated_back _ _ _ seat c.join.new.seat c.look.new.seat slip found was.seated c.join.ensures c.look.ensures.knows c.look.ensures.was_out after refl;
+      seated =
+          seated_back _ _ _ seat c.join.new.seat c.look.new.seat slip found was.seated c.join.ensures c.look.ensures.knows
+          c.look.ensures.was_out after refl;
       same_table = all_more _ _ _ note.share c.push_reserved.ensures.items was.same_table share;
       has_room = omega (arith, was.has_room, c.push_reserved.ensures.capacity);
       in_all = omega (arith, was.in_all, ap length c.push_reserved.ensures.items, length-append c.self.inside.shares.items (note.share ∷ []), out);
@@ -48,14 +52,20 @@ invariant_of-self-in-Dead c =
 pub returns-in-Held-clause-fewer : goal.returns-in-Held-clause-fewer
 returns-in-Held-clause-fewer c =
     let note = c.note.inside in
-    out_back _ _ c.self.inside.seat c.join.new.seat c.look.new.seat (slip_of note.seat.me.0) (found_of note.seat.me.0) c.self.invariant.seated c.join.ensures c.look.ensures.knows c.look.ensures.was_out ∙ ap (λ w. length w.out) c.self.view_is
+    out_back _ _ c.self.inside.seat c.join.new.seat c.look.new.seat (slip_of note.seat.me.0)
+    (found_of note.seat.me.0) c.self.invariant.seated c.join.ensures c.look.ensures.knows c.look.ensures.was_out
+    ∙ ap (λ w. length w.out) c.self.view_is
 
 pub returns-in-Dead-clause-fewer : goal.returns-in-Dead-clause-fewer
 returns-in-Dead-clause-fewer c =
     let note = c.note.inside in
-    out_back _ _ c.self.inside.seat c.join.new.seat c.look.new.seat (slip_of note.seat.me.0) (found_of note.seat.me.0) c.self.invariant.seated c.join.ensures c.look.ensures.knows c.look.ensures.was_out ∙ ap (λ w. length w.out) c.self.view_is
+    out_back _ _ c.self.inside.seat c.join.new.seat c.look.new.seat (slip_of note.seat.me.0)
+    (found_of note.seat.me.0) c.self.invariant.seated c.join.ensures c.look.ensures.knows c.look.ensures.was_out
+    ∙ ap (λ w. length w.out) c.self.view_is
 
 pub returns-in-Held-clause-bounded : goal.returns-in-Held-clause-bounded
 returns-in-Held-clause-bounded c =
     let note = c.note.inside in
-    small_back _ _ c.self.inside.seat c.join.new.seat c.look.new.seat (slip_of note.seat.me.0) (found_of note.seat.me.0) c.self.invariant.seated c.join.ensures c.look.ensures.knows c.look.ensures.was_out c.args.note.slip.place
+    small_back _ _ c.self.inside.seat c.join.new.seat c.look.new.seat (slip_of note.seat.me.0)
+    (found_of note.seat.me.0) c.self.invariant.seated c.join.ensures c.look.ensures.knows c.look.ensures.was_out
+    c.args.note.slip.place

@@ -6,8 +6,12 @@ use Rattle.deferred.proofs.queues.Deferred.add_idfc.Goals as goal
 
 pub returns-clause-answer : goal.returns-clause-answer
 returns-clause-answer c =
-    rw (← c.self.view_is) (c.enqueue.ensures.answer ∙ ap not (sym (idfc_queued c.self.inside.idfcs c.self.inside.places.items c.self.inside.priorities.items c.self.inside.links c.self.invariant c.args.item _ (omega (arith, c.len.ensures)))))
+    rw (← c.self.view_is) (c.enqueue.ensures.answer
+    ∙ ap not (sym (idfc_queued c.self.inside.idfcs c.self.inside.places.items c.self.inside.priorities.items
+    c.self.inside.links c.self.invariant c.args.item _ (omega (arith, c.len.ensures)))))
 
 pub returns-clause-after : goal.returns-clause-after
 returns-clause-after c =
-    rw (← c.self.view_is, c.enqueue.ensures.after) (immediate_added c.self.inside.idfcs c.self.inside.places.items c.self.inside.priorities.items c.self.inside.links c.self.invariant _ (Idfc c.args.item) (item_idfc _ c.args.item _ (omega (arith, c.len.ensures))))
+    rw (← c.self.view_is, c.enqueue.ensures.after)
+    (immediate_added c.self.inside.idfcs c.self.inside.places.items c.self.inside.priorities.items c.self.inside.links
+    c.self.invariant _ (Idfc c.args.item) (item_idfc _ c.args.item _ (omega (arith, c.len.ensures))))

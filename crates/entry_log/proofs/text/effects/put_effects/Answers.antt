@@ -12,4 +12,9 @@ unfolding preceded
 loop-effect-init c = (sym (append-nil _), omega arith)
 
 pub loop-effect-preserved : goal.loop-effect-preserved
-loop-effect-preserved c = (rw (preceded_more 32 effect_text c.args.effects.now c.loop-effect.effect-index (Plus (InProcess (record { 0 = 0 }) 0) (record { 0 = 0 })) c.loop-effect-test.true) (simp (append_assoc, c.put_effect.ensures.text, c.put_byte.ensures, c.loop-effect.invariant.0)), grind (arith, common_steps))
+loop-effect-preserved c = (
+  rw (preceded_more 32 effect_text c.args.effects.now c.loop-effect.effect-index
+      (Plus (InProcess (record { 0 = 0 }) 0) (record { 0 = 0 })) c.loop-effect-test.true)
+      (simp (append_assoc, c.put_effect.ensures.text, c.put_byte.ensures, c.loop-effect.invariant.0)),
+  grind (arith, common_steps),
+)

@@ -4,4 +4,13 @@ use Rattle.entry_log.proofs.Joins.{joined_three}
 use Rattle.entry_log.proofs.text.effects.put_finish.Goals as goal
 
 pub returns-clause-text : goal.returns-clause-text
-returns-clause-text c = let fits : FitsSigned w32 c.args.code = search rules in simp (joined_three, append_assoc, to_z-of_z fits, c.put_code.ensures.text, c.put_byte.ensures, c.put_numbered.ensures.text)
+returns-clause-text c =
+    let fits : FitsSigned w32 c.args.code = search rules in
+    simp (
+      joined_three,
+      append_assoc,
+      to_z-of_z fits,
+      c.put_code.ensures.text,
+      c.put_byte.ensures,
+      c.put_numbered.ensures.text,
+    )

@@ -6,4 +6,6 @@ use Rattle.entry_log.proofs.text.entries.put_number_answered.Goals as goal
 
 pub returns-clause-text : goal.returns-clause-text
 unfolding answer_words preceded
-returns-clause-text c = let fits : FitsSigned w32 c.args.number = search rules in simp (append_assoc, append-nil, to_z-of_z fits, c.put_code.ensures.text, c.put_letters.ensures)
+returns-clause-text c =
+    let fits : FitsSigned w32 c.args.number = search rules in
+    simp (append_assoc, append-nil, to_z-of_z fits, c.put_code.ensures.text, c.put_letters.ensures)

@@ -12,7 +12,13 @@ push-requires g c =
     (omega arith, grind (arith, common_steps))
 
 pub loop-letter-preserved : goal.loop-letter-preserved
-loop-letter-preserved g c = rw (take_more c.args.letters.now c.loop-letter.letter-index 0 (omega (arith, c.told-letters, c.loop-letter-test.true)), ← append_assoc, ← c.loop-letter.invariant) c.push.ensures.items
+loop-letter-preserved g c =
+    rw (
+      take_more c.args.letters.now c.loop-letter.letter-index 0
+          (omega (arith, c.told-letters, c.loop-letter-test.true)),
+      ← append_assoc,
+      ← c.loop-letter.invariant,
+    ) c.push.ensures.items
 
 pub returns : goal.returns
 returns g c = grind (arith, common_steps)

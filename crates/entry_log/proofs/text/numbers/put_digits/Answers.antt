@@ -7,7 +7,20 @@ pub put_four_digits-requires-then-number-lt1000000-clause-room : goal.put_four_d
 put_four_digits-requires-then-number-lt1000000-clause-room c = omega (arith, c.requires, length_digits_and_pair c.args.number (omega arith) (omega arith))
 
 pub put_pair-requires-clause-room : goal.put_pair-requires-clause-room
-put_pair-requires-clause-room c = omega (arith, c.requires, length_digits_and_pair c.args.number (omega arith) (omega arith), ap length c.put_four_digits-then-number-lt1000000.ensures, length-append c.args.line.now.items (decimal (c.args.number / 100)))
+put_pair-requires-clause-room c =
+    omega (
+      arith,
+      c.requires,
+      length_digits_and_pair c.args.number (omega arith) (omega arith),
+      ap length c.put_four_digits-then-number-lt1000000.ensures,
+      length-append c.args.line.now.items (decimal (c.args.number / 100)),
+    )
 
 pub returns-then-number-lt1000000 : goal.returns-then-number-lt1000000
-returns-then-number-lt1000000 c = simp (digits_and_pair c.args.number (omega arith) (omega arith), append_assoc, c.put_pair.ensures, c.put_four_digits-then-number-lt1000000.ensures)
+returns-then-number-lt1000000 c =
+    simp (
+      digits_and_pair c.args.number (omega arith) (omega arith),
+      append_assoc,
+      c.put_pair.ensures,
+      c.put_four_digits-then-number-lt1000000.ensures,
+    )

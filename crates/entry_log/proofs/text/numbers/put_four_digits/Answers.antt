@@ -7,7 +7,14 @@ pub put_two_digits-requires-2-clause-room : goal.put_two_digits-requires-2-claus
 put_two_digits-requires-2-clause-room c = omega (arith, c.requires.room, length_digits_and_pair c.args.number c.if-number-lt100.false (omega arith))
 
 pub put_pair-requires-clause-room : goal.put_pair-requires-clause-room
-put_pair-requires-clause-room c = omega (arith, c.requires.room, length_digits_and_pair c.args.number c.if-number-lt100.false (omega arith), ap length c.put_two_digits-2.ensures, length-append c.args.line.now.items (decimal (c.args.number / 100)))
+put_pair-requires-clause-room c =
+    omega (
+      arith,
+      c.requires.room,
+      length_digits_and_pair c.args.number c.if-number-lt100.false (omega arith),
+      ap length c.put_two_digits-2.ensures,
+      length-append c.args.line.now.items (decimal (c.args.number / 100)),
+    )
 
 pub returns : goal.returns
 returns c = simp (digits_and_pair c.args.number c.if-number-lt100.false (omega arith), append_assoc, c.put_pair.ensures, c.put_two_digits-2.ensures)

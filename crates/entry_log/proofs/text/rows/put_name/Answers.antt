@@ -14,7 +14,11 @@ shown_some [] some = absurd (omega arith)
 shown_some (byte ∷ bytes) some = refl
 
 pub returns-then-is_empty-clause-text : goal.returns-then-is_empty-clause-text
-returns-then-is_empty-clause-text c = let none : length c.as_slice-bytes.result.now ≡ 0 = grind (arith, nat_tests) in rw (← c.as_slice-bytes.ensures.bytes, shown_none _ none) c.put.ensures
+returns-then-is_empty-clause-text c =
+    let none : length c.as_slice-bytes.result.now ≡ 0 = grind (arith, nat_tests) in
+    rw (← c.as_slice-bytes.ensures.bytes, shown_none _ none) c.put.ensures
 
 pub returns-else-is_empty-clause-text : goal.returns-else-is_empty-clause-text
-returns-else-is_empty-clause-text c = let some : 0 < length c.as_slice-bytes.result.now = grind (arith, nat_tests) in rw (← c.as_slice-bytes.ensures.bytes, shown_some _ some) c.put-else-is_empty.ensures
+returns-else-is_empty-clause-text c =
+    let some : 0 < length c.as_slice-bytes.result.now = grind (arith, nat_tests) in
+    rw (← c.as_slice-bytes.ensures.bytes, shown_some _ some) c.put-else-is_empty.ensures

@@ -5,4 +5,14 @@ use Rattle.entry_log.proofs.text.rows.put_reason.Goals as goal
 
 pub returns-clause-text : goal.returns-clause-text
 unfolding preceded
-returns-clause-text c = let fits : FitsSigned w32 c.args.reason = search rules in simp (append_assoc, append-nil, to_z-of_z fits, c.put_code.ensures.text, c.put-3.ensures, c.put-2.ensures, c.put.ensures)
+returns-clause-text c =
+    let fits : FitsSigned w32 c.args.reason = search rules in
+    simp (
+      append_assoc,
+      append-nil,
+      to_z-of_z fits,
+      c.put_code.ensures.text,
+      c.put-3.ensures,
+      c.put-2.ensures,
+      c.put.ensures,
+    )

@@ -17,7 +17,9 @@ push_back-requires-clause-free c =
     let known = rw (← c.self.view_is) at c.requires.object in
     let read = get_or_read c.self.inside.owners.items c.args.o.0 c.index.result.now known c.index.ensures None in
     let other : (c.in-Some-2.field-0.thread.0 == c.args.t.0) ≡ false = search rules in
-    let waits : lock_answer (get_or c.self.inside.owners.items c.args.o.0 None) c.args.t ≡ Waits = ap (λ (x : Option Owner). lock_answer x c.args.t) (sym read ∙ c.in-Some-2.is) ∙ ap (λ (b : Bool). if b then Again else Waits) other in
+    let waits : lock_answer (get_or c.self.inside.owners.items c.args.o.0 None) c.args.t ≡ Waits =
+    ap (λ (x : Option Owner). lock_answer x c.args.t) (sym read ∙ c.in-Some-2.is)
+    ∙ ap (λ (b : Bool). if b then Again else Waits) other in
     let fresh = may waits in
     λ linked. let no : true ≡ false = sym linked ∙ sym (any_thread c.args.t c.self.inside.links.lists) ∙ fresh in absurd (cc)
 
@@ -25,4 +27,5 @@ pub returns-in-Some-2-clause-after : goal.returns-in-Some-2-clause-after
 returns-in-Some-2-clause-after c =
     let locks = locks_of c.self.inside.owners.items c.self.inside.counts.items c.self.inside.priorities.items c.self.inside.links in
     let added = waiter_added c.self.inside.owners.items c.self.inside.counts.items c.self.inside.priorities.items c.self.inside.links c.args.o c.args.t in
-    rw (← c.self.view_is, c.push_back.ensures) (ap (with_rows locks) (added ∙ waiters_alone locks.rows c.args.o (waiters_at locks.rows c.args.o ++ c.args.t ∷ [])))
+    rw (← c.self.view_is, c.push_back.ensures)
+    (ap (with_rows locks) (added ∙ waiters_alone locks.rows c.args.o (waiters_at locks.rows c.args.o ++ c.args.t ∷ [])))

@@ -6,7 +6,9 @@ use Rattle.kern_sync.proofs.sync.KernSync.remove_waiter.Goals as goal
 
 pub returns-then-is_linked-clause-after : goal.returns-then-is_linked-clause-after
 returns-then-is_linked-clause-after c =
-    rw (← c.self.view_is, c.unlink.ensures.unlinked) (waiter_removed c.self.inside.owners.items c.self.inside.counts.items c.self.inside.priorities.items c.self.inside.links c.args.t)
+    rw (← c.self.view_is, c.unlink.ensures.unlinked)
+    (waiter_removed c.self.inside.owners.items c.self.inside.counts.items c.self.inside.priorities.items
+    c.self.inside.links c.args.t)
 
 pub returns-then-is_linked-clause-unchanged : goal.returns-then-is_linked-clause-unchanged
 returns-then-is_linked-clause-unchanged c =
@@ -19,9 +21,14 @@ returns-then-is_linked-clause-ended c =
 
 pub returns-else-is_linked-clause-after : goal.returns-else-is_linked-clause-after
 returns-else-is_linked-clause-after c =
-    let absent = waits_not c.self.inside.owners.items c.self.inside.counts.items c.self.inside.priorities.items c.self.inside.links c.args.t (λ held. let no : false ≡ true = sym c.if-is_linked.false ∙ c.is_linked.ensures.linked.1 held in absurd (cc)) in
-    rw (← c.self.view_is) (waiter_absent (locks_of c.self.inside.owners.items c.self.inside.counts.items c.self.inside.priorities.items c.self.inside.links) c.args.t absent)
+    let absent = waits_not c.self.inside.owners.items c.self.inside.counts.items c.self.inside.priorities.items
+    c.self.inside.links c.args.t (λ held. let no : false ≡ true = sym c.if-is_linked.false
+    ∙ c.is_linked.ensures.linked.1 held in absurd (cc)) in
+    rw (← c.self.view_is) (waiter_absent (locks_of c.self.inside.owners.items c.self.inside.counts.items
+    c.self.inside.priorities.items c.self.inside.links) c.args.t absent)
 
 pub returns-else-is_linked-clause-ended : goal.returns-else-is_linked-clause-ended
 returns-else-is_linked-clause-ended c =
-    rw (← c.self.view_is) (waits_not c.self.inside.owners.items c.self.inside.counts.items c.self.inside.priorities.items c.self.inside.links c.args.t (λ held. let no : false ≡ true = sym c.if-is_linked.false ∙ c.is_linked.ensures.linked.1 held in absurd (cc)))
+    rw (← c.self.view_is) (waits_not c.self.inside.owners.items c.self.inside.counts.items
+    c.self.inside.priorities.items c.self.inside.links c.args.t
+    (λ held. let no : false ≡ true = sym c.if-is_linked.false ∙ c.is_linked.ensures.linked.1 held in absurd (cc)))

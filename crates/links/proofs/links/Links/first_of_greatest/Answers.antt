@@ -35,8 +35,14 @@ loop-place-preserved c =
       at = at;
       linked = chosen_keeps weight (λ node. IsLinked c.args.self.now node) c.loop-place.best c.in-Some.after c.heavier-best.result is known.linked held;
       node_below = c.in-Some.ensures.below;
-      below = chosen_keeps weight (λ node. node < c.args.self.now.nodes) c.loop-place.best c.in-Some.after c.heavier-best.result is known.below c.in-Some.ensures.below;
-      rest = known.rest ∙ ap (unless_greater weight c.loop-place.best) (chosen_at weight list (c.loop-place.place + 1) c.in-Some.after at) ∙ chosen_on weight c.loop-place.best c.in-Some.after c.heavier-best.result (first_of_greatest weight (drop (c.loop-place.place + 1 + 1) list)) is;
+      below =
+          chosen_keeps weight (λ node. node < c.args.self.now.nodes) c.loop-place.best c.in-Some.after c.heavier-best.result
+          is known.below c.in-Some.ensures.below;
+      rest =
+          known.rest
+          ∙ ap (unless_greater weight c.loop-place.best) (chosen_at weight list (c.loop-place.place + 1) c.in-Some.after at)
+          ∙ chosen_on weight c.loop-place.best c.in-Some.after c.heavier-best.result
+          (first_of_greatest weight (drop (c.loop-place.place + 1 + 1) list)) is;
     }
 
 pub returns-clause-first : goal.returns-clause-first
@@ -44,4 +50,9 @@ returns-clause-first c =
     let listed = rw (← c.self.view_is) at c.requires.list in
     let at = rw (← c.self.view_is) at c.loop-place.invariant.at in
     let lists = lists_of c.self.inside.nodes c.self.inside.neighbours.next.items in
-    absurd (omega (arith, slice_get_within (get_or lists c.args.list []) c.loop-place.place c.loop-place.node at, bounded _ _ _ _ c.self.invariant c.args.list listed, c.loop-place-test.false))
+    absurd (omega (
+      arith,
+      slice_get_within (get_or lists c.args.list []) c.loop-place.place c.loop-place.node at,
+      bounded _ _ _ _ c.self.invariant c.args.list listed,
+      c.loop-place-test.false,
+    ))

@@ -10,5 +10,7 @@ invariant-loop-place l = record {
   linked : IsLinked l.self l.best;
   node_below : l.node < l.self.nodes;
   below : l.best < l.self.nodes;
-  rest : first_of_greatest (λ node. get_or l.weights node 0) (list_at l.self l.list) ≡ unless_greater (λ node. get_or l.weights node 0) l.best (first_of_greatest (λ node. get_or l.weights node 0) (drop (l.place + 1) (list_at l.self l.list)));
+  rest : first_of_greatest (λ node. get_or l.weights node 0) (list_at l.self l.list)
+      ≡ unless_greater (λ node. get_or l.weights node 0) l.best
+      (first_of_greatest (λ node. get_or l.weights node 0) (drop (l.place + 1) (list_at l.self l.list)));
 }

@@ -14,11 +14,16 @@ invariant_of-self c =
     let listed = rw (← c.self.view_is) at c.requires.list in
     let node = rw (← c.self.view_is) at c.requires.node in
     let unheld = rw (← c.self.view_is) at c.requires.free in
-    (pushed_front_leads _ _ _ _ c.self.invariant c.args.list c.args.node c.next-first.result listed node (free_from_unheld _ _ unheld) c.next-first.ensures c.insert.new.self.next.items c.insert.new.self.previous.items c.insert.ensures.next c.insert.ensures.previous).0
+    (pushed_front_leads _ _ _ _ c.self.invariant c.args.list c.args.node c.next-first.result listed node
+    (free_from_unheld _ _ unheld) c.next-first.ensures c.insert.new.self.next.items c.insert.new.self.previous.items
+    c.insert.ensures.next c.insert.ensures.previous).0
 
 pub returns : goal.returns
 returns c =
     let listed = rw (← c.self.view_is) at c.requires.list in
     let node = rw (← c.self.view_is) at c.requires.node in
     let unheld = rw (← c.self.view_is) at c.requires.free in
-    rw (← c.self.view_is) (ap (λ (lists : List (List ℕ)). record { nodes = c.self.inside.nodes; lists = lists }) (pushed_front_leads _ _ _ _ c.self.invariant c.args.list c.args.node c.next-first.result listed node (free_from_unheld _ _ unheld) c.next-first.ensures c.insert.new.self.next.items c.insert.new.self.previous.items c.insert.ensures.next c.insert.ensures.previous).1)
+    rw (← c.self.view_is) (ap (λ (lists : List (List ℕ)). record { nodes = c.self.inside.nodes; lists = lists })
+    (pushed_front_leads _ _ _ _ c.self.invariant c.args.list c.args.node c.next-first.result listed node
+    (free_from_unheld _ _ unheld) c.next-first.ensures c.insert.new.self.next.items c.insert.new.self.previous.items
+    c.insert.ensures.next c.insert.ensures.previous).1)

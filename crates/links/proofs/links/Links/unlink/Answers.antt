@@ -17,21 +17,33 @@ remove-requires-clause-after c =
 pub invariant_of-self : goal.invariant_of-self
 invariant_of-self c =
     let held = rw (← c.self.view_is) at c.requires.linked in
-    (unlinked_leads _ _ _ _ c.self.invariant c.args.node c.previous-before.result c.next-after.result held c.previous-before.ensures c.next-after.ensures c.remove.new.self.next.items c.remove.new.self.previous.items c.remove.ensures.next c.remove.ensures.previous).0.0
+    (unlinked_leads _ _ _ _ c.self.invariant c.args.node c.previous-before.result c.next-after.result held
+    c.previous-before.ensures c.next-after.ensures c.remove.new.self.next.items c.remove.new.self.previous.items
+    c.remove.ensures.next c.remove.ensures.previous).0.0
 
 pub returns-clause-unlinked : goal.returns-clause-unlinked
 returns-clause-unlinked c =
     let held = rw (← c.self.view_is) at c.requires.linked in
-    rw (← c.self.view_is) (ap (λ (lists : List (List ℕ)). record { nodes = c.self.inside.nodes; lists = lists }) (unlinked_leads _ _ _ _ c.self.invariant c.args.node c.previous-before.result c.next-after.result held c.previous-before.ensures c.next-after.ensures c.remove.new.self.next.items c.remove.new.self.previous.items c.remove.ensures.next c.remove.ensures.previous).0.1)
+    rw (← c.self.view_is) (ap (λ (lists : List (List ℕ)). record { nodes = c.self.inside.nodes; lists = lists })
+    (unlinked_leads _ _ _ _ c.self.invariant c.args.node c.previous-before.result c.next-after.result held
+    c.previous-before.ensures c.next-after.ensures c.remove.new.self.next.items c.remove.new.self.previous.items
+    c.remove.ensures.next c.remove.ensures.previous).0.1)
 
 pub returns-clause-alone : goal.returns-clause-alone
 returns-clause-alone c =
     let held = rw (← c.self.view_is) at c.requires.linked in
-    let left = unlinked_leads _ _ _ _ c.self.invariant c.args.node c.previous-before.result c.next-after.result held c.previous-before.ensures c.next-after.ensures c.remove.new.self.next.items c.remove.new.self.previous.items c.remove.ensures.next c.remove.ensures.previous in
-    rw (← c.self.view_is) (λ list place stands. ap (λ (lists : List (List ℕ)). record { nodes = c.self.inside.nodes; lists = lists }) (left.0.1 ∙ without_is _ _ _ _ c.self.invariant list place c.args.node (listed_from _ list place c.args.node stands) stands))
+    let left = unlinked_leads _ _ _ _ c.self.invariant c.args.node c.previous-before.result c.next-after.result held
+    c.previous-before.ensures c.next-after.ensures c.remove.new.self.next.items c.remove.new.self.previous.items
+    c.remove.ensures.next c.remove.ensures.previous in
+    rw (← c.self.view_is) (λ list place stands. ap
+    (λ (lists : List (List ℕ)). record { nodes = c.self.inside.nodes; lists = lists })
+    (left.0.1 ∙ without_is _ _ _ _ c.self.invariant list place c.args.node
+    (listed_from _ list place c.args.node stands) stands))
 
 pub returns-clause-free : goal.returns-clause-free
 returns-clause-free c =
     let held = rw (← c.self.view_is) at c.requires.linked in
-    let left = unlinked_leads _ _ _ _ c.self.invariant c.args.node c.previous-before.result c.next-after.result held c.previous-before.ensures c.next-after.ensures c.remove.new.self.next.items c.remove.new.self.previous.items c.remove.ensures.next c.remove.ensures.previous in
+    let left = unlinked_leads _ _ _ _ c.self.invariant c.args.node c.previous-before.result c.next-after.result held
+    c.previous-before.ensures c.next-after.ensures c.remove.new.self.next.items c.remove.new.self.previous.items
+    c.remove.ensures.next c.remove.ensures.previous in
     rw left.0.1 (unheld_from_free _ c.args.node left.1)

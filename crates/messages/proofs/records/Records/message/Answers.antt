@@ -7,4 +7,6 @@ index-requires c =
 
 pub returns : goal.returns
 returns c =
-    rw (← c.self.view_is) (rw c.index.ensures at (under_key_of c.self.inside.numbers.items c.self.inside.keys.items c.self.inside.slab c.self.invariant.0 c.args.key (rw (← c.self.view_is) at c.requires)))
+    rw (← c.self.view_is) (rw c.index.ensures at
+    (under_key_of c.self.inside.numbers.items c.self.inside.keys.items c.self.inside.slab c.self.invariant.0 c.args.key
+    (rw (← c.self.view_is) at c.requires)))

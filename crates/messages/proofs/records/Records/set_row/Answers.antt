@@ -10,5 +10,9 @@ index_mut-requires c =
 
 pub returns : goal.returns
 returns c =
-    let there = there_of_key c.self.inside.numbers.items c.self.inside.keys.items c.self.inside.slab c.self.invariant.0 c.args.key (rw (← c.self.view_is) at c.requires) in
-    rw (← c.self.view_is) (store_edited c.self.inside.numbers.items c.self.inside.keys.items c.self.inside.slab c.self.invariant.0 (with_value c.self.inside.slab c.args.key (record c.index_mut.result.now { row = c.args.row })) c.args.key c.index_mut.result.now c.args.row c.index_mut.ensures.value (Updates-with_value c.self.inside.slab c.args.key (record c.index_mut.result.now { row = c.args.row }) there) refl)
+    let there = there_of_key c.self.inside.numbers.items c.self.inside.keys.items c.self.inside.slab c.self.invariant.0
+    c.args.key (rw (← c.self.view_is) at c.requires) in
+    rw (← c.self.view_is) (store_edited c.self.inside.numbers.items c.self.inside.keys.items c.self.inside.slab
+    c.self.invariant.0 (with_value c.self.inside.slab c.args.key (record c.index_mut.result.now { row = c.args.row }))
+    c.args.key c.index_mut.result.now c.args.row c.index_mut.ensures.value
+    (Updates-with_value c.self.inside.slab c.args.key (record c.index_mut.result.now { row = c.args.row }) there) refl)

@@ -5,8 +5,12 @@ use Rattle.messages.proofs.table.Messages.add.Goals as goal
 
 pub push_back-requires-clause-free : goal.push_back-requires-clause-free
 push_back-requires-clause-free c =
-    queued_free is_at c.self.inside.records (length c.self.inside.outstanding.lists) c.self.inside.outstanding c.self.invariant.all c.add-key.result c.add-key.ensures.fresh
+    queued_free is_at c.self.inside.records
+    (length c.self.inside.outstanding.lists) c.self.inside.outstanding c.self.invariant.all c.add-key.result
+    c.add-key.ensures.fresh
 
 pub push_back-requires-2-clause-free : goal.push_back-requires-2-clause-free
 push_back-requires-2-clause-free c =
-    queued_free waits_at c.self.inside.records (length c.self.inside.outstanding.lists) c.self.inside.untaken c.self.invariant.waiting c.add-key.result c.add-key.ensures.fresh
+    queued_free waits_at c.self.inside.records
+    (length c.self.inside.outstanding.lists) c.self.inside.untaken c.self.invariant.waiting c.add-key.result
+    c.add-key.ensures.fresh

@@ -10,7 +10,9 @@ unreachable-requires c =
 pub invariant_of-self : goal.invariant_of-self
 invariant_of-self c =
     let alike = alike_found c.args.m c.self.inside.records.stored c.in-Some.field-0 c.in-Some.ensures.found c.in-Some.ensures.under.alike in
-    rw (c.remove.ensures, c.leave.ensures, c.leave-2.ensures) (messages_gone c.self.inside.objects c.self.inside.accepted c.self.inside.records c.self.inside.outstanding c.self.inside.untaken c.self.invariant c.args.m c.in-Some.field-0.key alike)
+    rw (c.remove.ensures, c.leave.ensures, c.leave-2.ensures)
+    (messages_gone c.self.inside.objects c.self.inside.accepted c.self.inside.records c.self.inside.outstanding
+    c.self.inside.untaken c.self.invariant c.args.m c.in-Some.field-0.key alike)
 
 pub returns-clause-finished : goal.returns-clause-finished
 returns-clause-finished c =
@@ -18,4 +20,6 @@ returns-clause-finished c =
 
 pub returns-clause-gone : goal.returns-clause-gone
 returns-clause-gone c =
-    rw (← c.self.view_is, c.remove.ensures, c.leave.ensures) (rows_gone c.args.m c.in-Some.field-0.key c.self.inside.pool c.self.inside.accepted c.self.inside.records c.self.inside.outstanding)
+    rw (← c.self.view_is, c.remove.ensures, c.leave.ensures)
+    (rows_gone c.args.m c.in-Some.field-0.key c.self.inside.pool c.self.inside.accepted c.self.inside.records
+    c.self.inside.outstanding)

@@ -13,7 +13,9 @@ unreachable-requires c =
 
 pub invariant_of-self : goal.invariant_of-self
 invariant_of-self c =
-    rw c.set_row.ensures (messages_edited c.self.inside.objects c.self.inside.accepted c.self.inside.records c.self.inside.outstanding c.self.inside.untaken c.self.invariant c.in-Some.field-0 _ c.in-Some.ensures.under.same refl refl)
+    rw c.set_row.ensures (messages_edited c.self.inside.objects c.self.inside.accepted c.self.inside.records
+    c.self.inside.outstanding c.self.inside.untaken c.self.invariant c.in-Some.field-0 _ c.in-Some.ensures.under.same
+    refl refl)
 
 pub returns : goal.returns
 returns c =

@@ -5,4 +5,6 @@ use Rattle.nano_sync.proofs.sync.NanoSync.want.Goals as goal
 
 pub returns-clause-known : goal.returns-clause-known
 returns-clause-known c =
-    rw (← c.self.view_is) (if_some _ _ (λ f is. c.self.invariant.wants_known c.args.t f (ap (λ xs. get_or xs c.args.t.0 None) (sym c.deref.ensures.value) ∙ sym (c.in_ok-get.ensures.lookup.3.1 None) ∙ is)))
+    rw (← c.self.view_is) (if_some _ _ (λ f is. c.self.invariant.wants_known c.args.t f
+    (ap (λ xs. get_or xs c.args.t.0 None) (sym c.deref.ensures.value) ∙ sym (c.in_ok-get.ensures.lookup.3.1 None)
+    ∙ is)))

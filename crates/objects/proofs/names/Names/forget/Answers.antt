@@ -11,14 +11,18 @@ use Rattle.objects.proofs.names.Names.forget.Goals as goal
 pub returns-then-is_session : goal.returns-then-is_session
 returns-then-is_session c =
     let made = there_made c.args.rows.now c.args.number c.requires.there in
-    let row : row_at c.args.rows.now c.args.number ≡ Some c.in-Some.row = sym (get_or_read c.args.rows.now c.args.number c.index-rows-number.result made c.index-rows-number.is None) ∙ c.in-Some.is in
+    let row : row_at c.args.rows.now c.args.number ≡ Some c.in-Some.row =
+    sym (get_or_read c.args.rows.now c.args.number c.index-rows-number.result made c.index-rows-number.is None)
+    ∙ c.in-Some.is in
     let unnamed : is_named (row_at c.args.rows.now c.args.number) ≡ false = ap is_named row ∙ ap not (sym c.is_session.ensures ∙ c.if-is_session.true) in
     listed_swept_session c.args.rows.now c.args.self.now c.args.number c.requires.listed made unnamed
 
 pub returns-in-Ok : goal.returns-in-Ok
 returns-in-Ok c =
     let made = there_made c.args.rows.now c.args.number c.requires.there in
-    let row : row_at c.args.rows.now c.args.number ≡ Some c.in-Some.row = sym (get_or_read c.args.rows.now c.args.number c.index-rows-number.result made c.index-rows-number.is None) ∙ c.in-Some.is in
+    let row : row_at c.args.rows.now c.args.number ≡ Some c.in-Some.row =
+    sym (get_or_read c.args.rows.now c.args.number c.index-rows-number.result made c.index-rows-number.is None)
+    ∙ c.in-Some.is in
     let named : is_named (row_at c.args.rows.now c.args.number) ≡ true = ap is_named row ∙ ap not (sym c.is_session.ensures ∙ c.if-is_session.false) in
     let found = c.in-Ok.ensures in
     let items = rw c.self.view_is at c.remove_at.ensures.items in
@@ -27,8 +31,11 @@ returns-in-Ok c =
 pub returns-in_default-place_of : goal.returns-in_default-place_of
 returns-in_default-place_of c =
     let made = there_made c.args.rows.now c.args.number c.requires.there in
-    let row : row_at c.args.rows.now c.args.number ≡ Some c.in-Some.row = sym (get_or_read c.args.rows.now c.args.number c.index-rows-number.result made c.index-rows-number.is None) ∙ c.in-Some.is in
+    let row : row_at c.args.rows.now c.args.number ≡ Some c.in-Some.row =
+    sym (get_or_read c.args.rows.now c.args.number c.index-rows-number.result made c.index-rows-number.is None)
+    ∙ c.in-Some.is in
     let named : is_named (row_at c.args.rows.now c.args.number) ≡ true = ap is_named row ∙ ap not (sym c.is_session.ensures ∙ c.if-is_session.false) in
     let h = c.in_default-place_of.ensures in
     let k = c.in_default-place_of.is in
-    absurd (gap_absent c.args.rows.now c.args.self.now c.args.number c.in_default-place_of.field-0 c.requires.listed named (rw row c.in_default-place_of.ensures))
+    absurd (gap_absent c.args.rows.now c.args.self.now c.args.number c.in_default-place_of.field-0 c.requires.listed
+    named (rw row c.in_default-place_of.ensures))

@@ -10,8 +10,12 @@ invariant_of-self g c =
     let there = rw (← c.self.view_is) at c.requires.there in
     let made = there_made c.self.inside.rows.items c.args.o.0 there in
     let read = read_own c.self.inside.rows.items c.self.inside.counts.items _ c.args.o.0 c.index_mut.result.now kept made c.index_mut.ensures.value in
-    let words = rw (c.in-Stays.is, c.from.ensures) at c.close-left.ensures.closes in
-    (kept_counts c.self.inside.rows.items c.self.inside.counts.items _ _ c.args.o.0 _ _ kept made (ap (λ (w : Words). w.own) words) (ap (λ (w : Words). w.stages) words) (ap (λ n. n - 1) read), rw length-set c.self.invariant.1, c.self.invariant.2)
+    let words = rw (c.in-Stays.is, c.from.ensures) at c.close-left.ensures.closes in (
+      kept_counts c.self.inside.rows.items c.self.inside.counts.items _ _ c.args.o.0 _ _ kept made
+          (ap (λ (w : Words). w.own) words) (ap (λ (w : Words). w.stages) words) (ap (λ n. n - 1) read),
+      rw length-set c.self.invariant.1,
+      c.self.invariant.2,
+    )
 
 pub invariant_of-self-in-Last : goal.invariant_of-self-in-Last
 invariant_of-self-in-Last g c =
@@ -19,5 +23,10 @@ invariant_of-self-in-Last g c =
     let there = rw (← c.self.view_is) at c.requires.there in
     let made = there_made c.self.inside.rows.items c.args.o.0 there in
     let read = read_own c.self.inside.rows.items c.self.inside.counts.items _ c.args.o.0 c.index_mut.result.now kept made c.index_mut.ensures.value in
-    let words = rw (c.in-Last.is, c.from.ensures) at c.close-left.ensures.closes in
-    (rw c.bury.ensures.rows (kept_dead c.self.inside.rows.items c.self.inside.counts.items _ _ c.args.o.0 _ _ kept there (ap (λ (w : Words). w.own) words) (ap (λ (w : Words). w.stages) words) (ap (λ n. n - 1) read)), rw length-set (omega (arith, c.self.invariant.1, c.bury.ensures.room)), rw c.bury.ensures.rows (listed_closed c.self.inside.rows.items c.self.inside.names c.args.o.0 c.self.invariant.2 made))
+    let words = rw (c.in-Last.is, c.from.ensures) at c.close-left.ensures.closes in (
+      rw c.bury.ensures.rows (kept_dead c.self.inside.rows.items c.self.inside.counts.items _ _ c.args.o.0 _ _ kept there
+          (ap (λ (w : Words). w.own) words) (ap (λ (w : Words). w.stages) words) (ap (λ n. n - 1) read)),
+      rw length-set (omega (arith, c.self.invariant.1, c.bury.ensures.room)),
+      rw c.bury.ensures.rows (listed_closed c.self.inside.rows.items c.self.inside.names c.args.o.0 c.self.invariant.2
+          made),
+    )

@@ -34,5 +34,10 @@ invariant_of-self g c =
     let room : length c.self.inside.rows.items < 4096 = omega (arith, kept.limited) in
     let made : c.len-made.result ≡ length c.self.inside.rows.items = omega arith in
     let untaken = (rw c.deref.ensures.value at c.in-Some.ensures).0 in
-    let left = (rw (← c.self.view_is) at c.requires) (answer_is c.self.inside.rows.items c.args.kind c.args.name.now untaken room) in
-    (rw (c.create.ensures, c.push_reserved.ensures.items, c.kept_name.ensures, made) (kept_made c.self.inside.rows.items c.self.inside.counts.items _ c.args.kind c.args.name.now kept room left untaken), rw length-set (omega (arith, c.self.invariant.1, c.push_reserved.ensures.capacity)), rw (c.push_reserved.ensures.items, c.kept_name.ensures) (rw c.deref-2.ensures.value at c.list.ensures))
+    let left = (rw (← c.self.view_is) at c.requires) (answer_is c.self.inside.rows.items c.args.kind c.args.name.now untaken room) in (
+      rw (c.create.ensures, c.push_reserved.ensures.items, c.kept_name.ensures, made)
+          (kept_made c.self.inside.rows.items c.self.inside.counts.items _ c.args.kind c.args.name.now kept room left
+          untaken),
+      rw length-set (omega (arith, c.self.invariant.1, c.push_reserved.ensures.capacity)),
+      rw (c.push_reserved.ensures.items, c.kept_name.ensures) (rw c.deref-2.ensures.value at c.list.ensures),
+    )

@@ -7,8 +7,12 @@ use Rattle.objects.proofs.objects.Objects.new.Goals as goal
 
 pub invariant_of-result : goal.invariant_of-result
 invariant_of-result g c =
-    let counts : c.in_ok-counts.counts.items ≡ replicate {A = ℕ} c.min-places.result 0 = search rules in
-    (rw (c.in_ok-rows.ensures.items, counts) (kept_new _ _ c.requires c.places.ensures.stages c.places.ensures.fresh (omega arith)), rw (counts, length-replicate) (omega (arith, c.in_ok-rows.ensures.exact)), rw (c.in_ok-rows.ensures.items, c.in_ok-names.ensures) listed_none)
+    let counts : c.in_ok-counts.counts.items ≡ replicate {A = ℕ} c.min-places.result 0 = search rules in (
+      rw (c.in_ok-rows.ensures.items, counts)
+          (kept_new _ _ c.requires c.places.ensures.stages c.places.ensures.fresh (omega arith)),
+      rw (counts, length-replicate) (omega (arith, c.in_ok-rows.ensures.exact)),
+      rw (c.in_ok-rows.ensures.items, c.in_ok-names.ensures) listed_none,
+    )
 
 pub returns-clause-none_out : goal.returns-clause-none_out
 returns-clause-none_out g c = out-none_created (g.W.RefWords.meaning c.args.words) c.requires c.places.ensures.created

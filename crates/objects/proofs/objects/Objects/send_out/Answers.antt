@@ -16,5 +16,9 @@ send_out-requires-clause-created g c =
 
 pub invariant_of-self : goal.invariant_of-self
 invariant_of-self g c =
-    let sent = c.send_out.ensures.sent in
-    (kept_notes c.self.inside.rows.items c.self.inside.counts.items _ _ (ap (λ (w : Words). w.own) sent) (ap (λ (w : Words). w.stages) sent) c.self.invariant.0, c.self.invariant.1, c.self.invariant.2)
+    let sent = c.send_out.ensures.sent in (
+      kept_notes c.self.inside.rows.items c.self.inside.counts.items _ _ (ap (λ (w : Words). w.own) sent)
+          (ap (λ (w : Words). w.stages) sent) c.self.invariant.0,
+      c.self.invariant.1,
+      c.self.invariant.2,
+    )

@@ -9,8 +9,10 @@ pub returns-then-is_linked-clause-found : goal.returns-then-is_linked-clause-fou
 returns-then-is_linked-clause-found c =
     let held = c.is_linked.ensures.linked.0 c.if-is_linked.true in
     let known = rw (← c.self.view_is) at c.requires in
-    let read = get_or_read c.self.inside.priorities.items c.args.t.0 c.index.result.now (omega (arith, c.self.invariant.owned.sized, c.self.invariant.nodes)) c.index.ensures 0 in
-    rw (← c.self.view_is, read) (priority_ready c.self.inside.threads c.self.inside.links c.self.inside.priorities.items c.self.inside.mask c.self.invariant c.args.t held)
+    let read = get_or_read c.self.inside.priorities.items c.args.t.0 c.index.result.now
+    (omega (arith, c.self.invariant.owned.sized, c.self.invariant.nodes)) c.index.ensures 0 in
+    rw (← c.self.view_is, read) (priority_ready c.self.inside.threads c.self.inside.links c.self.inside.priorities.items
+    c.self.inside.mask c.self.invariant c.args.t held)
 
 pub returns-then-is_linked-clause-none : goal.returns-then-is_linked-clause-none
 returns-then-is_linked-clause-none c =
@@ -19,15 +21,23 @@ returns-then-is_linked-clause-none c =
 
 pub returns-else-is_linked-clause-found : goal.returns-else-is_linked-clause-found
 returns-else-is_linked-clause-found c =
-    rw (← c.self.view_is) (priority_unready c.self.inside.threads c.self.inside.links c.self.inside.priorities.items c.self.inside.mask c.self.invariant c.args.t (λ held. let no = sym (c.is_linked.ensures.linked.1 held) ∙ c.if-is_linked.false in absurd (cc)))
+    rw (← c.self.view_is) (priority_unready c.self.inside.threads c.self.inside.links c.self.inside.priorities.items
+    c.self.inside.mask c.self.invariant c.args.t
+    (λ held. let no = sym (c.is_linked.ensures.linked.1 held) ∙ c.if-is_linked.false in absurd (cc)))
 
 pub returns-else-is_linked-clause-none : goal.returns-else-is_linked-clause-none
 returns-else-is_linked-clause-none c =
-    rw (← c.self.view_is) (λ _ ready. let held = sym (any_thread c.args.t c.self.inside.links.lists) ∙ ready in let no = sym (c.is_linked.ensures.linked.1 held) ∙ c.if-is_linked.false in absurd (cc), λ _. refl)
+    rw (← c.self.view_is) (
+      λ _ ready. let held = sym (any_thread c.args.t c.self.inside.links.lists) ∙ ready in
+          let no = sym (c.is_linked.ensures.linked.1 held) ∙ c.if-is_linked.false in absurd (cc),
+      λ _. refl,
+    )
 
 pub returns-then-is_linked-clause-ranged : goal.returns-then-is_linked-clause-ranged
 returns-then-is_linked-clause-ranged c =
     let held = c.is_linked.ensures.linked.0 c.if-is_linked.true in
     let known = rw (← c.self.view_is) at c.requires in
-    let read = get_or_read c.self.inside.priorities.items c.args.t.0 c.index.result.now (omega (arith, c.self.invariant.owned.sized, c.self.invariant.nodes)) c.index.ensures c.index.result.now in
-    (stands_read c.self.inside.threads c.self.inside.links c.self.inside.priorities.items c.self.inside.mask c.self.invariant c.args.t.0 c.index.result.now known read held).0
+    let read = get_or_read c.self.inside.priorities.items c.args.t.0 c.index.result.now
+    (omega (arith, c.self.invariant.owned.sized, c.self.invariant.nodes)) c.index.ensures c.index.result.now in
+    (stands_read c.self.inside.threads c.self.inside.links c.self.inside.priorities.items c.self.inside.mask
+    c.self.invariant c.args.t.0 c.index.result.now known read held).0

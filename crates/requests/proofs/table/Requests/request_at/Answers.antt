@@ -5,4 +5,6 @@ use Rattle.requests.proofs.table.Requests.request_at.Goals as goal
 
 pub returns-clause-known : goal.returns-clause-known
 returns-clause-known c =
-    rw (← c.self.view_is) (if_some _ _ (λ request is. c.self.invariant.requests_known c.args.device request (ap (λ xs. get_or xs c.args.device None) (sym c.deref.ensures.value) ∙ sym (c.in_ok-get.ensures.lookup.3.1 None) ∙ is)))
+    rw (← c.self.view_is) (if_some _ _ (λ request is. c.self.invariant.requests_known c.args.device request
+    (ap (λ xs. get_or xs c.args.device None) (sym c.deref.ensures.value) ∙ sym (c.in_ok-get.ensures.lookup.3.1 None)
+    ∙ is)))

@@ -6,4 +6,6 @@ use Rattle.server_table.proofs.table.ServerTable.add_server.Goals as goal
 pub invariant_of-self : goal.invariant_of-self
 invariant_of-self c =
     let alone = rw (← c.self.view_is) at c.requires.alone in
-    kept_rows c.self.inside.servers.items c.self.inside.sessions.items c.self.inside.links c.self.invariant _ _ (length-set c.self.inside.servers.items c.args.o.0 _) (length-set c.self.inside.sessions.items c.args.o.0 _) (link_stays c.self.inside.sessions.items c.args.o.0 None (sym alone.no_server))
+    kept_rows c.self.inside.servers.items c.self.inside.sessions.items c.self.inside.links c.self.invariant _ _
+    (length-set c.self.inside.servers.items c.args.o.0 _) (length-set c.self.inside.sessions.items c.args.o.0 _)
+    (link_stays c.self.inside.sessions.items c.args.o.0 None (sym alone.no_server))

@@ -18,8 +18,13 @@ invariant_of-self c =
     let alone = rw (← c.self.view_is) at c.requires.alone in
     let object = rw (← c.self.view_is) at c.requires.object in
     let below = some_below c.self.inside.servers.items c.args.server.0 (rw (← c.self.view_is) at c.requires.server) in
-    rw c.push_back.ensures (kept_added c.self.inside.servers.items c.self.inside.sessions.items c.self.inside.links c.self.invariant _ c.args.s.0 c.args.server.0 _ (length-set c.self.inside.servers.items c.args.s.0 _) (omega (arith, object, c.self.invariant.sessions_sized, c.self.invariant.servers_sized)) (omega (arith, below, c.self.invariant.lists, c.self.invariant.servers_sized)) alone.no_server refl)
+    rw c.push_back.ensures (kept_added c.self.inside.servers.items c.self.inside.sessions.items c.self.inside.links
+    c.self.invariant _ c.args.s.0 c.args.server.0 _ (length-set c.self.inside.servers.items c.args.s.0 _)
+    (omega (arith, object, c.self.invariant.sessions_sized, c.self.invariant.servers_sized))
+    (omega (arith, below, c.self.invariant.lists, c.self.invariant.servers_sized)) alone.no_server refl)
 
 pub returns : goal.returns
 returns c =
-    rw (← c.self.view_is, c.push_back.ensures) (rows_added c.self.inside.servers.items c.self.inside.sessions.items c.self.inside.links c.args.s c.args.server c.args.slots c.args.client)
+    rw (← c.self.view_is, c.push_back.ensures)
+    (rows_added c.self.inside.servers.items c.self.inside.sessions.items c.self.inside.links c.args.s c.args.server
+    c.args.slots c.args.client)

@@ -12,7 +12,8 @@ row-row-requires c = linked_session (session_at c.args.self.now c.args.s) c.requ
 
 pub unlink-requires-clause-node : goal.unlink-requires-clause-node
 unlink-requires-clause-node c =
-    let below = some_below c.self.inside.sessions.items c.args.s.0 (linked_session (get_or c.self.inside.sessions.items c.args.s.0 None) (rw (← c.self.view_is) at c.requires)) in
+    let below = some_below c.self.inside.sessions.items c.args.s.0
+    (linked_session (get_or c.self.inside.sessions.items c.args.s.0 None) (rw (← c.self.view_is) at c.requires)) in
     omega (arith, below, c.self.invariant.sessions_sized)
 
 pub unlink-requires-clause-linked : goal.unlink-requires-clause-linked
@@ -23,14 +24,19 @@ unlink-requires-clause-linked c =
 
 pub invariant_of-self : goal.invariant_of-self
 invariant_of-self c =
-    let below = some_below c.self.inside.sessions.items c.args.s.0 (linked_session (get_or c.self.inside.sessions.items c.args.s.0 None) (rw (← c.self.view_is) at c.requires)) in
+    let below = some_below c.self.inside.sessions.items c.args.s.0
+    (linked_session (get_or c.self.inside.sessions.items c.args.s.0 None) (rw (← c.self.view_is) at c.requires)) in
     let server = linked_server (link_at c.self.inside.sessions.items c.args.s.0) (rw (← c.self.view_is) at c.requires) in
     let stands = linked_stands c.self.inside.servers.items c.self.inside.sessions.items c.self.inside.links c.self.invariant c.args.s.0 server.0.0 server.1 in
-    rw (c.unlink.ensures.alone server.0.0 stands.0 stands.1) (kept_left c.self.inside.servers.items c.self.inside.sessions.items c.self.inside.links c.self.invariant c.args.s.0 server.0.0 _ below server.1 refl)
+    rw (c.unlink.ensures.alone server.0.0 stands.0 stands.1)
+    (kept_left c.self.inside.servers.items c.self.inside.sessions.items c.self.inside.links c.self.invariant c.args.s.0
+    server.0.0 _ below server.1 refl)
 
 pub returns : goal.returns
 returns c =
     let at = rw (← c.self.view_is) at c.row-row.ensures in
     let server = linked_server (link_at c.self.inside.sessions.items c.args.s.0) (rw (← c.self.view_is) at c.requires) in
     let stands = linked_stands c.self.inside.servers.items c.self.inside.sessions.items c.self.inside.links c.self.invariant c.args.s.0 server.0.0 server.1 in
-    rw (← c.self.view_is, c.unlink.ensures.alone server.0.0 stands.0 stands.1) (rows_left c.self.inside.servers.items c.self.inside.sessions.items c.self.inside.links c.args.s server.0 c.row-row.result (sym at) (ap link_of at ∙ server.1))
+    rw (← c.self.view_is, c.unlink.ensures.alone server.0.0 stands.0 stands.1)
+    (rows_left c.self.inside.servers.items c.self.inside.sessions.items c.self.inside.links c.args.s server.0
+    c.row-row.result (sym at) (ap link_of at ∙ server.1))

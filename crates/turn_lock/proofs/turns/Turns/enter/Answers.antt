@@ -7,14 +7,23 @@ pub wait-requires-clause-one : goal.wait-requires-clause-one
 wait-requires-clause-one g c = (_, lifted _ _ _ c.lift-seat.ensures.1 c.lift-seat.ensures.2 c.requires.views)
 
 pub lend-value-requires-clause-up : goal.lend-value-requires-clause-up
-lend-value-requires-clause-up g c = let w = c.wait.ensures.waited _ (lifted _ _ _ c.lift-seat.ensures.1 c.lift-seat.ensures.2 c.requires.views) in (w.0, w.1, w.4)
+lend-value-requires-clause-up g c =
+    let w = c.wait.ensures.waited _ (lifted _ _ _ c.lift-seat.ensures.1 c.lift-seat.ensures.2 c.requires.views) in
+    (w.0, w.1, w.4)
 
 pub into_badge-requires : goal.into_badge-requires
-into_badge-requires g c = let w = c.wait.ensures.waited _ (lifted _ _ _ c.lift-seat.ensures.1 c.lift-seat.ensures.2 c.requires.views) in let l = c.lend-value.ensures.lends w.0 w.1 w.4 in ap (λ m. m.1) l.0
+into_badge-requires g c =
+    let w = c.wait.ensures.waited _ (lifted _ _ _ c.lift-seat.ensures.1 c.lift-seat.ensures.2 c.requires.views) in
+    let l = c.lend-value.ensures.lends w.0 w.1 w.4 in
+    ap (λ m. m.1) l.0
 
 pub returns : goal.returns
-returns g c = let w = c.wait.ensures.waited _ (lifted _ _ _ c.lift-seat.ensures.1 c.lift-seat.ensures.2 c.requires.views) in let l = c.lend-value.ensures.lends w.0 w.1 w.4 in
-    let e = entered c.args.self.now c.args.pass.now (record { badge = c.into_badge.result }) w.1 w.0 w.2 w.3 (search rules) (put_back c.lend-value.new.seat.me _ _ c.into_badge.ensures.2 l.0) in record {
+returns g c =
+    let w = c.wait.ensures.waited _ (lifted _ _ _ c.lift-seat.ensures.1 c.lift-seat.ensures.2 c.requires.views) in
+    let l = c.lend-value.ensures.lends w.0 w.1 w.4 in
+    let e = entered c.args.self.now c.args.pass.now (record { badge = c.into_badge.result }) w.1 w.0 w.2 w.3
+    (search rules) (put_back c.lend-value.new.seat.me _ _ c.into_badge.ensures.2 l.0) in
+    record {
       turn = e.turn;
       caller = e.caller;
       known = e.known;

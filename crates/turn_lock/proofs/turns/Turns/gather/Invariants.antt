@@ -9,7 +9,8 @@ use Rattle.turn_lock.proofs.turns.Turns.gather.Given as goal
 abbrev pub invariant-loop-badge : goal.invariant-loop-badge
 invariant-loop-badge g l = record {
   table : l.seat.table_id ≡ l.self.table;
-  rest : (known : List (Sight g.row.V-Base.Denot)) × (l.seat.me ≡ (Free known, [])) × (map (sight_of l.self) l.passes.items ++ known ≡ map (sight_of l.self) l.fn.passes.items);
+  rest : (known : List (Sight g.row.V-Base.Denot)) × (l.seat.me ≡ (Free known, []))
+      × (map (sight_of l.self) l.passes.items ++ known ≡ map (sight_of l.self) l.fn.passes.items);
   free : All (IsFree l.self) l.passes.items;
 }
 

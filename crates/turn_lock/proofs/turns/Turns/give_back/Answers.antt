@@ -18,7 +18,8 @@ pub load-requires-2 : goal.load-requires-2
 load-requires-2 g c = let m = c.requires.may.1 in let t = c.load.ensures.2 m.0 m.1 m.2 in (
   search rules,
   search rules,
-  gives_back_at _ _ _ _ _ _ _ m.0 m.1 c.args.value c.requires.may.0 (left_in_hand c.load.new.seat.me c.exchange.new.seat.me _ _ _ t c.exchange.ensures.3) m.3 m.4,
+  gives_back_at _ _ _ _ _ _ _ m.0 m.1 c.args.value c.requires.may.0
+      (left_in_hand c.load.new.seat.me c.exchange.new.seat.me _ _ _ t c.exchange.ensures.3) m.3 m.4,
 )
 
 pub returns-clause-returns : goal.returns-clause-returns

@@ -11,11 +11,17 @@ pub exchange-slot-requires : goal.exchange-slot-requires
 exchange-slot-requires g c = let t = c.load.ensures.2 c.requires.up.0 c.requires.up.1 c.requires.up.2 in (search rules, in_hand _ _ _ t.1)
 
 pub load-requires-2 : goal.load-requires-2
-load-requires-2 g c = let t = c.load.ensures.2 c.requires.up.0 c.requires.up.1 c.requires.up.2 in
-    (search rules, search rules, lends_at _ _ _ _ _ _ _ c.requires.up.0 c.requires.up.1 (left_in_hand c.load.new.seat.me c.exchange-slot.new.seat.me _ _ _ t.1 c.exchange-slot.ensures.3))
+load-requires-2 g c = let t = c.load.ensures.2 c.requires.up.0 c.requires.up.1 c.requires.up.2 in (
+  search rules,
+  search rules,
+  lends_at _ _ _ _ _ _ _ c.requires.up.0 c.requires.up.1
+      (left_in_hand c.load.new.seat.me c.exchange-slot.new.seat.me _ _ _ t.1 c.exchange-slot.ensures.3),
+)
 
 pub unwrap-requires : goal.unwrap-requires
-unwrap-requires g c = let t = c.load.ensures.2 c.requires.up.0 c.requires.up.1 c.requires.up.2 in subst IsSome (found_in_hand c.load.new.seat.me _ _ _ t.1 c.exchange-slot.ensures.2) refl
+unwrap-requires g c =
+    let t = c.load.ensures.2 c.requires.up.0 c.requires.up.1 c.requires.up.2 in
+    subst IsSome (found_in_hand c.load.new.seat.me _ _ _ t.1 c.exchange-slot.ensures.2) refl
 
 pub returns-clause-lends : goal.returns-clause-lends
 returns-clause-lends g c x a e = let t = c.load.ensures.2 x a e in let found = found_in_hand c.load.new.seat.me _ _ _ t.1 c.exchange-slot.ensures.2 in
