@@ -17,5 +17,6 @@ look-number_at t index low =
     rw (index_of-number_at t index low, eq-eqb number number refl) refl
 
 -- so its removal frees exactly the place of the index, where an object stands there
-pub removed-number_at : (t : HandleTable) (index : ℕ) → index < 65536 → is_some (slot_at t.slots index).object ≡ true → table_removed t (number_at t index) ≡ record t { slots = slots_removed t.slots index }
+pub removed-number_at : (t : HandleTable) (index : ℕ) → index < 65536 → is_some (slot_at t.slots index).object ≡ true
+    → table_removed t (number_at t index) ≡ record t { slots = slots_removed t.slots index }
 removed-number_at t index low some = rw (look-number_at t index low, some, index_of-number_at t index low) refl

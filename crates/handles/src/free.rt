@@ -34,6 +34,20 @@ impl FreePlaces {
         256
     }
 
+    /// The least place that isn't free, 256 where each is free.
+    pub fn least_taken(&self) -> usize
+        ensures within { result ≤ 256 }
+        ensures taken { result < 256 → bit_of self.now.words result ≡ 0 }
+        ensures below { (i : ℕ) → i < result → bit_of self.now.words i ≡ 1 }
+    {
+        for (place, word) in self.words.iter().enumerate() {
+            if *word != u64::MAX {
+                return 64 * place + word.trailing_ones() as usize;
+            }
+        }
+        256
+    }
+
     /// A place is free no more.
     pub fn take(&mut self, place: usize)
         requires { place < 256 }

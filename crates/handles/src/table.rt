@@ -126,6 +126,18 @@ impl Handles {
         object
     }
 
+    /// The least index whose place is in use, and the object there. None where no place is in use.
+    pub fn first(&self) -> Option<(u8, ObjNo)>
+        ensures { result ≡ next_used self.now.slots 0 }
+    {
+        let place = self.free.least_taken();
+        if place == Limits::HANDLES {
+            return None;
+        }
+        let object = self.slots[place].object?;
+        Some((place as u8, object))
+    }
+
     /// The least index from `from` on whose place is in use, and the object there. None where there is none.
     pub fn next_of(&self, from: u16) -> Option<(u8, ObjNo)>
         ensures { result ≡ next_used self.now.slots from }

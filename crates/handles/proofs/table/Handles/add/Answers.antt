@@ -14,7 +14,9 @@ returns-then-index-eq-HANDLES-clause-full c =
 pub invariant_of-self : goal.invariant_of-self
 invariant_of-self c =
     let inside = c.self.inside in
-    kept_set inside.slots.items inside.free.words c.take.new.self.words c.free_index-index.result _ c.self.invariant (omega arith) c.next_instance-instance.ensures.small (λ o is. c.next_instance-instance.ensures.counted) c.take.ensures.taken c.take.ensures.others
+    kept_set inside.slots.items inside.free.words c.take.new.self.words c.free_index-index.result _ c.self.invariant
+    (omega arith) c.next_instance-instance.ensures.small
+    (λ o is. c.next_instance-instance.ensures.counted) c.take.ensures.taken c.take.ensures.others
 
 pub returns-clause-full : goal.returns-clause-full
 returns-clause-full c =

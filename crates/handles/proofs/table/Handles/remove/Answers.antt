@@ -12,9 +12,14 @@ invariant_of-self c =
     let slots = inside.slots.items in
     let index : ℕ = c.index_of-index.result in
     let some : is_some (look inside.local slots c.args.handle) ≡ true =
-    ap (λ (object : Option ObjNo). is_some object) (sym (c.look-object.ensures ∙ ap (λ (s : List HandleSlot). look inside.local s c.args.handle) c.deref.ensures.value)) ∙ sym c.if-is_some.ensures in
+    ap (λ (object : Option ObjNo). is_some object)
+    (sym (c.look-object.ensures ∙ ap (λ (s : List HandleSlot). look inside.local s c.args.handle)
+    c.deref.ensures.value))
+    ∙ sym c.if-is_some.ensures in
     let low : index < length slots = rw c.index_of-index.ensures (look_inside inside.local slots c.args.handle some) in
     let read = get_or_read slots index c.index_mut.result.now low c.index_mut.ensures.value fresh_slot in
     let same = ap (λ (slot : HandleSlot). slot.instance) read in
     let few = c.self.invariant.table.instances index in
-    kept_set slots inside.free.words c.give.new.self.words index _ c.self.invariant (omega (arith, low, c.self.invariant.table.size)) (omega (arith, same, few)) (λ o is. absurd (cc)) c.give.ensures.free c.give.ensures.others
+    kept_set slots inside.free.words c.give.new.self.words index _ c.self.invariant
+    (omega (arith, low, c.self.invariant.table.size)) (omega (arith, same, few))
+    (λ o is. absurd (cc)) c.give.ensures.free c.give.ensures.others
