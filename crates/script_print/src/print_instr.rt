@@ -23,10 +23,17 @@ fn put_spelled(
     put_line(out, Keyword::Instr(first), words)
 }
 
-/// Adds the line of an instruction, whose first word and operands these are.
+/// The word of an operand.
+macro_rules! word {
+    (Number, $operand:expr) => { Word::Number(u64::from($operand)) };
+    ($kind:ident, $operand:expr) => { Word::$kind($operand) };
+}
+
+/// Adds the line of an instruction, whose first word and operands these are. Operands of one kind that
+/// follow one another stand together.
 macro_rules! put {
-    ($out:ident, $what:ident, $first:ident $(, $kind:ident($operand:expr))*) => {
-        put_spelled($out, $what, FirstWord::$first, &[$(Word::$kind($operand)),*])
+    ($out:ident, $what:ident, $first:ident $(, $kind:ident($($operand:expr),+))*) => {
+        put_spelled($out, $what, FirstWord::$first, &[$($(word!($kind, $operand)),+),*])
     };
 }
 
@@ -37,13 +44,10 @@ pub fn put_instr(out: &mut Vec<u8>, what: Instr) -> Result<(), NoMemory>
 {
     match what {
         Instr::CreateMutex(name, x) => put!(out, what, Create, Kinded(Kind::Mutex), Named(name), Register(x)),
-        Instr::CreateSemaphore(name, count, x) => {
-            let count = u64::from(count);
-            put!(out, what, Create, Kinded(Kind::Semaphore), Named(name), Number(count), Register(x))
-        }
+        Instr::CreateSemaphore(name, n, x) => put!(out, what, Create, Kinded(Kind::Semaphore), Named(name), Number(n), Register(x)),
         Instr::Open(kind, name, x) => put!(out, what, Open, Kinded(kind), Named(name), Register(x)),
-        Instr::Dup(x, y) => put!(out, what, Dup, Register(x), Register(y)),
-        Instr::DupLocal(x, y) => put!(out, what, Duplocal, Register(x), Register(y)),
+        Instr::Dup(x, y) => put!(out, what, Dup, Register(x, y)),
+        Instr::DupLocal(x, y) => put!(out, what, Duplocal, Register(x, y)),
         Instr::Close(x) => put!(out, what, Close, Register(x)),
         Instr::Lock(x) => put!(out, what, Lock, Register(x)),
         Instr::Unlock(x) => put!(out, what, Unlock, Register(x)),
@@ -51,7 +55,7 @@ pub fn put_instr(out: &mut Vec<u8>, what: Instr) -> Result<(), NoMemory>
         Instr::Signal(x) => put!(out, what, Signal, Register(x)),
         Instr::Suspend(x) => put!(out, what, Suspend, Register(x)),
         Instr::Resume(x) => put!(out, what, Resume, Register(x)),
-        Instr::Priority(x, level) => put!(out, what, Priority, Register(x), Number(u64::from(level))),
+        Instr::Priority(x, level) => put!(out, what, Priority, Register(x), Number(level)),
         Instr::Kill(x, code) => put!(out, what, Kill, Register(x), Code(code)),
         Instr::Terminate(x, code) => put!(out, what, Terminate, Register(x), Code(code)),
         Instr::Panic(x, category, code) => put!(out, what, Panic, Register(x), Named(category), Code(code)),
@@ -72,20 +76,16 @@ pub fn put_instr(out: &mut Vec<u8>, what: Instr) -> Result<(), NoMemory>
         Instr::Status(x) => put!(out, what, Status, Status(x)),
         Instr::Server(name, x) => put!(out, what, Server, Named(name), Register(x)),
         Instr::Connect(name, slots, x) => put!(out, what, Connect, Named(name), Slotted(slots), Register(x)),
-        Instr::Send(x, function, y, args) => put!(out, what, Send, Register(x), Number(u64::from(function)), Status(y),
-            Argument(args.0), Argument(args.1), Argument(args.2), Argument(args.3)),
-        Instr::Call(x, function, args) => put!(out, what, Call, Register(x), Number(u64::from(function)),
-            Argument(args.0), Argument(args.1), Argument(args.2), Argument(args.3)),
+        Instr::Send(x, function, y, args) => put!(out, what, Send, Register(x), Number(function), Status(y),
+            Argument(args.0, args.1, args.2, args.3)),
+        Instr::Call(x, function, args) => put!(out, what, Call, Register(x), Number(function), Argument(args.0, args.1, args.2, args.3)),
         Instr::Receive(x, y) => put!(out, what, Receive, Register(x), Message(y)),
         Instr::Complete(x, code) => put!(out, what, Complete, Message(x), Code(code)),
         Instr::Function(x) => put!(out, what, Function, Message(x)),
-        Instr::Read(x, argument, offset, length, at) => put!(out, what, Read, Message(x), Number(u64::from(argument)),
-            Number(u64::from(offset)), Number(u64::from(length)), Number(u64::from(at))),
-        Instr::Write(x, argument, offset, length, from) => put!(out, what, Write, Message(x), Number(u64::from(argument)),
-            Number(u64::from(offset)), Number(u64::from(length)), Number(u64::from(from))),
-        Instr::Fill(at, length, byte) => put!(out, what, Fill, Number(u64::from(at)), Number(u64::from(length)),
-            Number(u64::from(byte))),
-        Instr::Peek(at) => put!(out, what, Peek, Number(u64::from(at))),
+        Instr::Read(x, argument, offset, length, at) => put!(out, what, Read, Message(x), Number(argument, offset, length, at)),
+        Instr::Write(x, argument, offset, length, from) => put!(out, what, Write, Message(x), Number(argument, offset, length, from)),
+        Instr::Fill(at, length, byte) => put!(out, what, Fill, Number(at, length, byte)),
+        Instr::Peek(at) => put!(out, what, Peek, Number(at)),
     }
 }
 

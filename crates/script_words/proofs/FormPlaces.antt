@@ -2,25 +2,13 @@
 use Rattle.std.proofs.Common.{◌≡◌, ℕ, Bool, true, false, List, sym, ap, ◌∙◌}
 use Rattle.script_words.specs.LineAt.{natural, values_at, body_at, instr_at, line_as}
 use Rattle.script_words.specs.LineSigns.{word_at}
-use Rattle.script_types.specs.Forms.{instr_operands, operands_of, instr_of, line_of}
+use Rattle.script_types.specs.Forms.{operands_of, line_of}
 use Rattle.script_types.specs.declared.instruction.Instr.{Instr}
 use Rattle.script_types.specs.declared.keyword.Keyword.{Keyword}
 use Rattle.script_types.specs.declared.keyword.Keyword.TheVariants as key
 use Rattle.script_types.specs.declared.source_line.SourceLine.{SourceLine}
 use Rattle.script_types.specs.declared.source_line.SourceLine.TheVariants as line
 use Rattle.sym_base.specs.declared.word.Word.{Word}
-use Rattle.sym_base.specs.declared.word.Word.TheVariants as word
-
-pub at_word : {w : Word} {what : Instr} (v : Word) (second : Bool) (words : List (List ℕ)) → w ≡ v
-    → what ≡ instr_of v second (values_at (instr_operands v second) words 1) → what ≡ instr_at w second words
-unfolding instr_at
-at_word {w} {what} v second words is h = h ∙ ap (λ (u : Word). instr_of u second (values_at (instr_operands u second) words 1)) (sym is)
-
-pub at_second : {second : Bool} {what : Instr} (b : Bool) (words : List (List ℕ)) → second ≡ b
-    → what ≡ instr_of word.Create b (values_at (instr_operands word.Create b) words 1)
-    → what ≡ instr_at word.Create second words
-unfolding instr_at
-at_second {second} {what} b words is h = h ∙ ap (λ (s : Bool). instr_of word.Create s (values_at (instr_operands word.Create s) words 1)) (sym is)
 
 pub at_keyword : {k : Keyword} {l : SourceLine} (v : Keyword) (second : Bool) (words : List (List ℕ)) → k ≡ v
     → l ≡ line_of v second (values_at (operands_of v second) words 1) (body_at v second words)

@@ -1,15 +1,13 @@
 //! Instructions: the operands of each word, and the instruction that words are, once their forms and ranges are tested.
 ghost use Rattle.std.specs.Prelude.{◌≡◌, false};
-ghost use Rattle.script_types.specs.Forms.{instr_operands};
-ghost use Rattle.script_words.specs.LineAt.{natural, instr_at};
-ghost use Rattle.script_words.specs.LineSigns.{word_at};
+ghost use Rattle.script_types.specs.Forms.{instr_operands, instr_of};
+ghost use Rattle.script_words.specs.LineAt.{values_at, instr_at};
 ghost use Rattle.script_words.specs.Operands.{AreOf};
 ghost use Rattle.script_words.specs.Pieces.{pieces};
-ghost use Rattle.script_words.specs.Signs.{lettered_value};
 
 use crate::operand::{
-    argument_at, byte_at, code_at, item_at, kind_at, name_at, number_at, register_at, size_at,
-    slots_at, small_at,
+    address_at, argument_at, byte_at, code_at, item_at, kind_at, name_at, number_at, register_at,
+    size_at, slots_at, small_at,
 };
 use crate::shared_operands::{
     ARGUMENT, CODE, COUNT, DEVICE, FAST_MUTEX, MESSAGE, NAME, PRIORITY, REGISTER, SIZE, STATUS,
@@ -60,17 +58,20 @@ pub fn instr_operands(word: Word, second: bool) -> &'static [Operand]
     }
 }
 
-/// A mutex that is made, or a semaphore with its count.
-fn created(words: &[&[u8]], second: bool) -> Instr
-    requires { AreOf (instr_operands Word.Create second) (pieces words.now) 1 }
-    ensures { result ≡ instr_at Word.Create second (pieces words.now) }
+/// The instruction that the table of forms makes of this word and of the words behind it.
+#[tactic(auto, unfolding(crate::specs::LineAt::instr_at))]
+fn made(word: Word, second: bool, words: &[&[u8]], what: Instr) -> Instr
+    requires { what ≡ instr_of word second (values_at (instr_operands word second) (pieces words.now) 1) }
+    ensures { result ≡ instr_at word second (pieces words.now) }
 {
-    if second {
-        let count = number_at(words, 3, 2_147_483_647);
-        Instr::CreateSemaphore(name_at(words, 2), count, register_at(words, 4))
-    } else {
-        Instr::CreateMutex(name_at(words, 2), register_at(words, 3))
-    }
+    what
+}
+
+/// The instruction of a word, whose operands are read at these places.
+macro_rules! made {
+    ($first:ident, $second:expr, $words:ident, $variant:ident $(($($read:ident($at:expr $(, $last:expr)?)),*))?) => {
+        made(Word::$first, $second, $words, Instr::$variant $(($($read($words, $at $(, $last)?)),*))?)
+    };
 }
 
 /// A message that is sent, with the status to be completed.
@@ -105,91 +106,54 @@ fn called(words: &[&[u8]], second: bool) -> Instr
     Instr::Call(register_at(words, 1), function, args)
 }
 
-/// The message of a copy, the number of its argument, the offset there, the length, and the place in
-/// the thread's own memory.
-fn copy_at(words: &[&[u8]]) -> (u8, u8, u16, u16, u16)
-    requires { AreOf (instr_operands Word.Read false) (pieces words.now) 1 }
-    ensures { result ≡ (lettered_value (word_at (pieces words.now) 1), natural (word_at (pieces words.now) 2), natural (word_at (pieces words.now) 3), natural (word_at (pieces words.now) 4), natural (word_at (pieces words.now) 5)) }
-{
-    (
-        register_at(words, 1),
-        small_at(words, 2, 3),
-        size_at(words, 3),
-        size_at(words, 4),
-        size_at(words, 5),
-    )
-}
-
-/// A copy from a client's memory.
-#[tactic(auto, unfolding(crate::specs::LineAt::instr_at))]
-fn read(words: &[&[u8]], second: bool) -> Instr
-    requires { AreOf (instr_operands Word.Read second) (pieces words.now) 1 }
-    ensures { result ≡ instr_at Word.Read second (pieces words.now) }
-{
-    let (message, argument, offset, length, at) = copy_at(words);
-    Instr::Read(message, argument, offset, length, at)
-}
-
-/// A copy to a client's memory.
-#[tactic(auto, unfolding(crate::specs::LineAt::instr_at))]
-fn written(words: &[&[u8]], second: bool) -> Instr
-    requires { AreOf (instr_operands Word.Write second) (pieces words.now) 1 }
-    ensures { result ≡ instr_at Word.Write second (pieces words.now) }
-{
-    let (message, argument, offset, length, from) = copy_at(words);
-    Instr::Write(message, argument, offset, length, from)
-}
-
-/// The instruction that words are whose first is this one.
+/// The instruction that words are whose first is this one, by the same table. Each form is a row.
+#[rattlefmt::skip]
 pub fn instruction_at(word: Word, second: bool, words: &[&[u8]]) -> Instr
     requires { AreOf (instr_operands word second) (pieces words.now) 1 }
     ensures { result ≡ instr_at word second (pieces words.now) }
 {
     match word {
-        Word::Create => created(words, second),
-        Word::Open => Instr::Open(kind_at(words, 1), name_at(words, 2), register_at(words, 3)),
-        Word::Dup => Instr::Dup(register_at(words, 1), register_at(words, 2)),
-        Word::Duplocal => Instr::DupLocal(register_at(words, 1), register_at(words, 2)),
-        Word::Close => Instr::Close(register_at(words, 1)),
-        Word::Lock => Instr::Lock(register_at(words, 1)),
-        Word::Unlock => Instr::Unlock(register_at(words, 1)),
-        Word::Wait => Instr::Wait(register_at(words, 1)),
-        Word::Signal => Instr::Signal(register_at(words, 1)),
-        Word::Suspend => Instr::Suspend(register_at(words, 1)),
-        Word::Resume => Instr::Resume(register_at(words, 1)),
-        Word::Priority => Instr::Priority(register_at(words, 1), small_at(words, 2, 63)),
-        Word::Kill => Instr::Kill(register_at(words, 1), code_at(words, 2)),
-        Word::Terminate => Instr::Terminate(register_at(words, 1), code_at(words, 2)),
-        Word::Panic => Instr::Panic(register_at(words, 1), name_at(words, 2), code_at(words, 3)),
-        Word::Exittype => Instr::ExitType(register_at(words, 1)),
-        Word::Logon => Instr::Logon(register_at(words, 1), item_at(words, 2)),
-        Word::Exit => Instr::Exit(code_at(words, 1)),
-        Word::Flock => Instr::Flock(item_at(words, 1)),
-        Word::Funlock => Instr::Funlock(item_at(words, 1)),
-        Word::Fswait => Instr::Fswait,
-        Word::Fssignal => Instr::Fssignal(name_at(words, 1)),
-        Word::Enter => Instr::Enter,
-        Word::Leave => Instr::Leave,
-        Word::Queue => Instr::Queue(name_at(words, 1)),
-        Word::Request => Instr::Request(item_at(words, 1), item_at(words, 2)),
-        Word::Cancel => Instr::Cancel(item_at(words, 1)),
-        Word::Waitany => Instr::WaitAny,
-        Word::Waitfor => Instr::WaitFor(item_at(words, 1)),
-        Word::Status => Instr::Status(item_at(words, 1)),
-        Word::Server => Instr::Server(name_at(words, 1), register_at(words, 2)),
-        Word::Connect => Instr::Connect(
-            name_at(words, 1),
-            slots_at(words, 2),
-            register_at(words, 3),
-        ),
+        Word::Create if second => made!(Create, true, words, CreateSemaphore(name_at(2), number_at(3, 2_147_483_647), register_at(4))),
+        Word::Create => made!(Create, false, words, CreateMutex(name_at(2), register_at(3))),
+        Word::Open => made!(Open, second, words, Open(kind_at(1), name_at(2), register_at(3))),
+        Word::Dup => made!(Dup, second, words, Dup(register_at(1), register_at(2))),
+        Word::Duplocal => made!(Duplocal, second, words, DupLocal(register_at(1), register_at(2))),
+        Word::Close => made!(Close, second, words, Close(register_at(1))),
+        Word::Lock => made!(Lock, second, words, Lock(register_at(1))),
+        Word::Unlock => made!(Unlock, second, words, Unlock(register_at(1))),
+        Word::Wait => made!(Wait, second, words, Wait(register_at(1))),
+        Word::Signal => made!(Signal, second, words, Signal(register_at(1))),
+        Word::Suspend => made!(Suspend, second, words, Suspend(register_at(1))),
+        Word::Resume => made!(Resume, second, words, Resume(register_at(1))),
+        Word::Priority => made!(Priority, second, words, Priority(register_at(1), small_at(2, 63))),
+        Word::Kill => made!(Kill, second, words, Kill(register_at(1), code_at(2))),
+        Word::Terminate => made!(Terminate, second, words, Terminate(register_at(1), code_at(2))),
+        Word::Panic => made!(Panic, second, words, Panic(register_at(1), name_at(2), code_at(3))),
+        Word::Exittype => made!(Exittype, second, words, ExitType(register_at(1))),
+        Word::Logon => made!(Logon, second, words, Logon(register_at(1), item_at(2))),
+        Word::Exit => made!(Exit, second, words, Exit(code_at(1))),
+        Word::Flock => made!(Flock, second, words, Flock(item_at(1))),
+        Word::Funlock => made!(Funlock, second, words, Funlock(item_at(1))),
+        Word::Fswait => made!(Fswait, second, words, Fswait),
+        Word::Fssignal => made!(Fssignal, second, words, Fssignal(name_at(1))),
+        Word::Enter => made!(Enter, second, words, Enter),
+        Word::Leave => made!(Leave, second, words, Leave),
+        Word::Queue => made!(Queue, second, words, Queue(name_at(1))),
+        Word::Request => made!(Request, second, words, Request(item_at(1), item_at(2))),
+        Word::Cancel => made!(Cancel, second, words, Cancel(item_at(1))),
+        Word::Waitany => made!(Waitany, second, words, WaitAny),
+        Word::Waitfor => made!(Waitfor, second, words, WaitFor(item_at(1))),
+        Word::Status => made!(Status, second, words, Status(item_at(1))),
+        Word::Server => made!(Server, second, words, Server(name_at(1), register_at(2))),
+        Word::Connect => made!(Connect, second, words, Connect(name_at(1), slots_at(2), register_at(3))),
         Word::Send => sent(words, second),
         Word::Call => called(words, second),
-        Word::Receive => Instr::Receive(register_at(words, 1), register_at(words, 2)),
-        Word::Complete => Instr::Complete(register_at(words, 1), code_at(words, 2)),
-        Word::Function => Instr::Function(register_at(words, 1)),
-        Word::Read => read(words, second),
-        Word::Write => written(words, second),
-        Word::Fill => Instr::Fill(size_at(words, 1), size_at(words, 2), byte_at(words, 3)),
-        Word::Peek => Instr::Peek(number_at(words, 1, 1023) as u16),
+        Word::Receive => made!(Receive, second, words, Receive(register_at(1), register_at(2))),
+        Word::Complete => made!(Complete, second, words, Complete(register_at(1), code_at(2))),
+        Word::Function => made!(Function, second, words, Function(register_at(1))),
+        Word::Read => made!(Read, second, words, Read(register_at(1), small_at(2, 3), size_at(3), size_at(4), size_at(5))),
+        Word::Write => made!(Write, second, words, Write(register_at(1), small_at(2, 3), size_at(3), size_at(4), size_at(5))),
+        Word::Fill => made!(Fill, second, words, Fill(size_at(1), size_at(2), byte_at(3))),
+        Word::Peek => made!(Peek, second, words, Peek(address_at(1))),
     }
 }

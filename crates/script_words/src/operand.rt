@@ -127,6 +127,14 @@ pub fn size_at(words: &[&[u8]], at: usize) -> u16
     number_at(words, at, 1024) as u16
 }
 
+/// The place of a byte in a thread's memory that stands at a place.
+pub fn address_at(words: &[&[u8]], at: usize) -> u16
+    requires { IsNumber 1023 (word_at (pieces words.now) at) }
+    ensures { result ≡ natural (word_at (pieces words.now) at) }
+{
+    number_at(words, at, 1023) as u16
+}
+
 /// The register at a place, of a handle or of a message: 0 to 7.
 pub fn register_at(words: &[&[u8]], at: usize) -> u8
     requires { IsNumber 7 (drop 1 (word_at (pieces words.now) at)) }
