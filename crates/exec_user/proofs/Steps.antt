@@ -23,10 +23,12 @@ use Rattle.exec_user.specs.Stepping.{IsAtStep, step_at}
 -- what the thread does next is the step
 pub step_decided : (script : Script) (S : State) (t : ObjNo) (instr : Instr) → IsAtStep script S t instr → decision_of script S t ≡ step_at script S t instr
 step_decided script S t instr at =
-    ap (λ (able : Bool). decision_where script (able || is_out S t) S t (task_of script S t)) at.able ∙ ap (λ (what : Option Task). decision_where script true S t what) at.next
+    ap (λ (able : Bool). decision_where script (able || is_out S t) S t (task_of script S t)) at.able
+    ∙ ap (λ (what : Option Task). decision_where script true S t what) at.next
 
 -- its moves go through
-pub step_goes : (script : Script) (S : State) (t : ObjNo) (instr : Instr) → IsShaped script → AreRows script S → IsAtStep script S t instr → ActionGoes script t (step_at script S t instr).moves S
+pub step_goes : (script : Script) (S : State) (t : ObjNo) (instr : Instr) → IsShaped script → AreRows script S
+    → IsAtStep script S t instr → ActionGoes script t (step_at script S t instr).moves S
 step_goes script S t instr shaped rows at =
     subst (λ (d : Decision). ActionGoes script t d.moves S) (step_decided script S t instr at) (able_goes script S t shaped rows at.able)
 
@@ -36,6 +38,7 @@ step_registers script S t instr shaped at =
     task_has_registers script S t (thread_of S t) instr shaped at.next
 
 -- its numbers are in their ranges
-pub step_ranges : (script : Script) (S : State) (t : ObjNo) (instr : Instr) → IsShaped script → IsAtStep script S t instr → is_source_line (line.Instr instr) ≡ true
+pub step_ranges : (script : Script) (S : State) (t : ObjNo) (instr : Instr) → IsShaped script
+    → IsAtStep script S t instr → is_source_line (line.Instr instr) ≡ true
 step_ranges script S t instr shaped at =
     task_has_ranges script S t (thread_of S t) instr shaped at.next

@@ -29,12 +29,22 @@ no_choice script history e = choosing-alone (after script history) e (alone_afte
 pub after_longer : (script : Script) (history : List Entry) (e : Entry) → after script (history ++ e ∷ []) ≡ next script (after script history) e.actor
 after_longer script history e = after-push false script history e ∙ ap (λ (S : State). next script S e.actor) (no_choice script history e)
 
-pub arrived_longer : (script : Script) (history : List Entry) (e : Entry) → arrived script (history ++ e ∷ []) ≡ arrived_next script (after script history) e.actor (arrived script history)
-arrived_longer script history e = arrived-push false script history e ∙ ap (λ (S : State). arrived_next script S e.actor (arrived script history)) (no_choice script history e)
+pub arrived_longer : (script : Script) (history : List Entry) (e : Entry)
+    → arrived script (history ++ e ∷ []) ≡ arrived_next script (after script history) e.actor (arrived script history)
+arrived_longer script history e =
+    arrived-push false script history e
+    ∙ ap (λ (S : State). arrived_next script S e.actor (arrived script history)) (no_choice script history e)
 
-pub legal_longer : (script : Script) (history : List Entry) (e : Entry) → IsLegal script history → CanAct script (after script history) e.actor → e ≡ entry_by script (after script history) (length history + 1) e.actor → IsLegal script (history ++ e ∷ [])
+pub legal_longer : (script : Script) (history : List Entry) (e : Entry) → IsLegal script history
+    → CanAct script (after script history) e.actor
+    → e ≡ entry_by script (after script history) (length history + 1) e.actor → IsLegal script (history ++ e ∷ [])
 legal_longer script history e legal can told =
-    legal-push false script history e legal (record { able = can; told = told ∙ ap (λ (S : State). entry_by script S (length history + 1) e.actor) (sym (no_choice script history e)) })
+    legal-push false script history e legal
+    (record {
+      able = can;
+      told = told ∙ ap (λ (S : State). entry_by script S (length history + 1) e.actor)
+          (sym (no_choice script history e));
+    })
 
 -- whoever may act and isn't out is able
 pub able_or : (able out : Bool) → out ≡ false → (able || out) ≡ true → able ≡ true

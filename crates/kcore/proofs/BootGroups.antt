@@ -10,32 +10,48 @@ use Rattle.machine.specs.declared.synchronization.Synchronization.{Synchronizati
 use Rattle.machine.specs.declared.serving.Serving.{Serving}
 use Rattle.machine.specs.declared.services.Services.{Services}
 use Rattle.machine.specs.Boot.{boot, boot_of, born, memory_of, memory_of_row}
+use Rattle.machine.specs.Choice.{priority_of}
 use Rattle.table_moves.specs.ObjectsView.{ObjectsView}
 use Rattle.kernel_tables.specs.declared.tables.Tables.{Tables}
 use Rattle.kernel_tables.specs.StateOf.{state_of}
-use Rattle.kcore.specs.BootTable.{AreTables, no_locks, no_servers}
+use Rattle.kcore.specs.BootTable.{AreTables, born_priority, no_locks, no_servers}
 use Rattle.kcore.proofs.BootUses.{none_listed}
 
 pub threads_at_boot : (script : Script) → (boot script).references.threads ≡ map (λ (b : Born). b.thread) (born script)
 unfolding boot_of
 threads_at_boot script = refl
 
+pub priorities_at_boot : (script : Script) → priority_of (boot script) ≡ born_priority (born script)
+unfolding boot_of
+priorities_at_boot script = refl
+
 memories_each : (bs : List Born) → map memory_of_row (map (λ (b : Born). b.thread) bs) ≡ map memory_of bs
 memories_each [] = refl
 memories_each (b ∷ bs) = ap (λ (l : List (Option (List ℕ))). memory_of b ∷ l) (memories_each bs)
 
 -- a state is its groups
-all_groups : (S : State) (m : Mode) (r : References) (s : Synchronization) (v : Serving) (k : Services) → m ≡ S.mode → r ≡ S.references → s ≡ S.synchronization → v ≡ S.serving → k ≡ S.services → record { mode = m; references = r; synchronization = s; serving = v; services = k } ≡ S
+all_groups : (S : State) (m : Mode) (r : References) (s : Synchronization) (v : Serving) (k : Services) → m ≡ S.mode
+    → r ≡ S.references → s ≡ S.synchronization → v ≡ S.serving → k ≡ S.services
+    → record { mode = m; references = r; synchronization = s; serving = v; services = k } ≡ S
 all_groups S m r s v k mode references synchronization serving services = rw (mode, references, synchronization, serving, services) refl
 
-module _ {W N : Type 0} (script : Script) (made : ObjectsView W) (tables : Tables W N) (h : AreTables script (born script) (boot script) made tables) where
+module _ {W N : Type 0} (script : Script) (made : ObjectsView W) (tables : Tables W N) (h : AreTables script (born script) made tables) where
   references_are : made.rows ≡ map (λ (b : Born). Some b.object) (born script) → (state_of tables).references ≡ (boot script).references
   unfolding boot_of
   references_are rows = rw (h.objects, rows, h.empty.handles, h.threads.procs, h.empty.cleanup, none_listed (born script)) refl
 
   synchronization_are : (state_of tables).synchronization ≡ (boot script).synchronization
   unfolding boot_of no_locks
-  synchronization_are = rw (h.empty.nano, h.empty.deferred, h.empty.requests, h.threads.locks, h.empty.cleanup, none_listed {A = ObjNo} (born script), none_listed {A = ObjNo × ℕ} (born script)) refl
+  synchronization_are =
+      rw (
+        h.empty.nano,
+        h.empty.deferred,
+        h.empty.requests,
+        h.threads.locks,
+        h.empty.cleanup,
+        none_listed {A = ObjNo} (born script),
+        none_listed {A = ObjNo × ℕ} (born script),
+      ) refl
 
   serving_are : (state_of tables).serving ≡ (boot script).serving
   unfolding boot_of no_servers
@@ -46,4 +62,7 @@ module _ {W N : Type 0} (script : Script) (made : ObjectsView W) (tables : Table
   services_are = rw (h.threads.procs, memories_each (born script)) refl
 
   pub state_is_boot : made.rows ≡ map (λ (b : Born). Some b.object) (born script) → state_of tables ≡ boot script
-  state_is_boot rows = all_groups (boot script) (state_of tables).mode (state_of tables).references (state_of tables).synchronization (state_of tables).serving (state_of tables).services h.empty.mode (references_are rows) synchronization_are serving_are services_are
+  state_is_boot rows =
+      all_groups (boot script) (state_of tables).mode (state_of tables).references (state_of tables).synchronization
+      (state_of tables).serving (state_of tables).services h.empty.mode
+      (references_are rows) synchronization_are serving_are services_are

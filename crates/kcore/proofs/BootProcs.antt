@@ -40,12 +40,15 @@ not_made f [] n = refl
 not_made f (x ∷ xs) zero = refl
 not_made f (x ∷ xs) (suc n) = not_made f xs n
 
-made_suc : {A : Type 0} (f : Option ThreadRow → Option A) (xs : List (Option ThreadRow)) (n : ℕ) (x : Option ThreadRow) → slice_get xs n ≡ Some x → set (made_so_far f xs n) n (f x) ≡ made_so_far f xs (suc n)
+made_suc : {A : Type 0} (f : Option ThreadRow → Option A) (xs : List (Option ThreadRow)) (n : ℕ) (x : Option ThreadRow)
+    → slice_get xs n ≡ Some x → set (made_so_far f xs n) n (f x) ≡ made_so_far f xs (suc n)
 made_suc f [] n x at = absurd (cc)
 made_suc f (y ∷ xs) zero x at = let same : x ≡ y = cc in ap (λ z. f z ∷ made_so_far f xs zero) same
 made_suc f (y ∷ xs) (suc n) x at = ap (λ l. f y ∷ l) (made_suc f xs n x at)
 
-pub one_made : {A : Type 0} (f : Option ThreadRow → Option A) (xs : List (Option ThreadRow)) (n : ℕ) (x : Option ThreadRow) → slice_get xs n ≡ Some x → set (made_so_far f xs n) n (f x) ≡ made_so_far f xs (n + 1)
+pub one_made : {A : Type 0} (f : Option ThreadRow → Option A) (xs : List (Option ThreadRow)) (n : ℕ)
+    (x : Option ThreadRow)
+    → slice_get xs n ≡ Some x → set (made_so_far f xs n) n (f x) ≡ made_so_far f xs (n + 1)
 one_made f xs n x at = rw add-one (made_suc f xs n x at)
 
 -- the rows themselves
@@ -60,7 +63,7 @@ pub record RankedTo (locks : KernelLocks) (threads : List (Option ThreadRow)) (n
   pub done : (k : ℕ) → k < n → get_or locks.priorities k 0 ≡ priority_of_row (get_or threads k None)
   pub later : (k : ℕ) → n ≤ k → get_or locks.priorities k 0 ≡ 0
 
-zeros : (n k : ℕ) → let none : ℕ = 0 in get_or (replicate n none) k none ≡ none
+pub zeros : (n k : ℕ) → let none : ℕ = 0 in get_or (replicate n none) k none ≡ none
 zeros zero k = refl
 zeros (suc n) zero = refl
 zeros (suc n) (suc k) = zeros n k
@@ -73,18 +76,24 @@ none_ranked locks threads is = record {
   later = λ k past. ap (λ (l : KernelLocks). get_or l.priorities k 0) is ∙ zeros BOOT_OBJECTS k;
 }
 
-pub one_ranked : (locks : KernelLocks) (threads : List (Option ThreadRow)) (n p : ℕ) → n < length locks.priorities → p ≡ priority_of_row (get_or threads n None) → RankedTo locks threads n → RankedTo (after_priority locks (record { 0 = n }) p) threads (n + 1)
+pub one_ranked : (locks : KernelLocks) (threads : List (Option ThreadRow)) (n p : ℕ) → n < length locks.priorities
+    → p ≡ priority_of_row (get_or threads n None) → RankedTo locks threads n
+    → RankedTo (after_priority locks (record { 0 = n }) p) threads (n + 1)
 one_ranked locks threads n p inside is h = record {
   rows = h.rows;
   long = length-set locks.priorities n p ∙ h.long;
   done = λ k lt. elim (cases_eq n k) [
-    | inl at ↦ ap (λ (i : ℕ). get_or (set locks.priorities n p) i 0) (sym at) ∙ (get_or-set_same locks.priorities n p 0 inside ∙ (is ∙ ap (λ (i : ℕ). priority_of_row (get_or threads i None)) at))
+    | inl at ↦
+        ap (λ (i : ℕ). get_or (set locks.priorities n p) i 0) (sym at)
+        ∙ (get_or-set_same locks.priorities n p 0 inside
+        ∙ (is ∙ ap (λ (i : ℕ). priority_of_row (get_or threads i None)) at))
     | inr apart ↦ get_or-set_other locks.priorities n k p 0 (λ q. apart (sym q)) ∙ h.done k (omega arith)
   ];
   later = λ k past. get_or-set_other locks.priorities n k p 0 (λ q. omega arith) ∙ h.later k (omega arith);
 }
 
-pub all_ranked : (locks : KernelLocks) (threads : List (Option ThreadRow)) (n : ℕ) → length threads ≤ n → RankedTo locks threads n → (u : ObjNo) → get_or locks.priorities u.0 0 ≡ priority_of_row (get_or threads u.0 None)
+pub all_ranked : (locks : KernelLocks) (threads : List (Option ThreadRow)) (n : ℕ) → length threads ≤ n
+    → RankedTo locks threads n → (u : ObjNo) → get_or locks.priorities u.0 0 ≡ priority_of_row (get_or threads u.0 None)
 all_ranked locks threads n long h u = elim (cases_lt u.0 n) [
   | inl lt ↦ h.done u.0 lt
   | inr past ↦ h.later u.0 past ∙ sym (ap priority_of_row (get_or_past threads u.0 None (omega arith)))

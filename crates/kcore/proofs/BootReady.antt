@@ -16,13 +16,14 @@ use Rattle.machine.specs.Rows.{thread_of}
 use Rattle.machine.specs.WellFormed.{AreApart, IsWellFormed}
 use Rattle.move_laws.proofs.Lists.Totals.{inside}
 use Rattle.kernel_tables.specs.ReadyQueues.{AreReady}
-use Rattle.kcore.proofs.BootTables.{take_get}
+use Rattle.kcore.proofs.ListSteps.{take_get}
 use Rattle.kernel_tables.proofs.ReadyChanges.{ready_behind}
 use Rattle.kernel_tables.proofs.ReadyQueues.{nobody_queued, ready_queued, other_thread}
 use Rattle.kernel_tables.proofs.ReadyRows.{ready_row}
 
 -- a listed thread has a row
-listed_row : (script : Script) (S : State) (qs : List ObjNo) (t : ObjNo) → IsWellFormed script S qs → is_listed qs t ≡ true → (row : ThreadRow) × (thread_of S t ≡ Some row)
+listed_row : (script : Script) (S : State) (qs : List ObjNo) (t : ObjNo) → IsWellFormed script S qs
+    → is_listed qs t ≡ true → (row : ThreadRow) × (thread_of S t ≡ Some row)
 listed_row script S qs t h listed = ready_row script S t (sym (h.ready.exact t) ∙ listed)
 
 pub listed_known : (script : Script) (S : State) (qs : List ObjNo) → IsWellFormed script S qs → (t : ObjNo) → is_listed qs t ≡ true → t.0 < BOOT_OBJECTS
@@ -54,7 +55,8 @@ not_before (x ∷ xs) (suc k) q apart at =
     or_from (x.0 == q.0) (is_listed (take k xs) q) other (not_before xs k q apart.1 at)
 
 -- so it isn't ready yet when those before it are
-pub not_ready_yet : (rank : ObjNo → ℕ) (qs : List ObjNo) (k : ℕ) (q : ObjNo) (r : Ready) → AreApart qs → AreReady rank (take k qs) r → slice_get qs k ≡ Some q → list_any (holds q) r.queues ≡ true → ⊥
+pub not_ready_yet : (rank : ObjNo → ℕ) (qs : List ObjNo) (k : ℕ) (q : ObjNo) (r : Ready) → AreApart qs
+    → AreReady rank (take k qs) r → slice_get qs k ≡ Some q → list_any (holds q) r.queues ≡ true → ⊥
 not_ready_yet rank qs k q r once are at ready =
     let clash : true ≡ false = sym ready ∙ (ready_queued rank (take k qs) r q are.queues ∙ not_before qs k q once at) in
     cc
@@ -64,6 +66,9 @@ pub none_ready : (rank : ObjNo → ℕ) → AreReady rank [] (no_threads BOOT_OB
 none_ready rank = record { queues = nobody_queued rank BOOT_OBJECTS; once = tt; known = λ t listed. absurd (cc); size = refl }
 
 -- one thread more
-pub one_more_ready : (rank : ObjNo → ℕ) (qs : List ObjNo) (k : ℕ) (q : ObjNo) (r : Ready) → q.0 < BOOT_OBJECTS → rank q < 64 → AreApart qs → AreReady rank (take k qs) r → slice_get qs k ≡ Some q → AreReady rank (take (k + 1) qs) (added r q (rank q))
+pub one_more_ready : (rank : ObjNo → ℕ) (qs : List ObjNo) (k : ℕ) (q : ObjNo) (r : Ready) → q.0 < BOOT_OBJECTS
+    → rank q < 64 → AreApart qs → AreReady rank (take k qs) r → slice_get qs k ≡ Some q
+    → AreReady rank (take (k + 1) qs) (added r q (rank q))
 one_more_ready rank qs k q r known low once are at =
-    subst (λ (l : List ObjNo). AreReady rank l (added r q (rank q))) (sym (take_get qs k q at)) (ready_behind rank (take k qs) r q known low (not_before qs k q once at) are)
+    subst (λ (l : List ObjNo). AreReady rank l (added r q (rank q))) (sym (take_get qs k q at))
+    (ready_behind rank (take k qs) r q known low (not_before qs k q once at) are)

@@ -12,7 +12,8 @@ unused : (n : ℕ) (x : Option ThreadRow) → ((row : ThreadRow) → x ≡ Some 
 unused n None new = refl
 unused n (Some row) new = (new row refl).uses
 
-pub none_used : (script : Script) (n : ℕ) (bs : List Born) → EachBorn script n bs → replicate (length bs) None ≡ map use_of_row (map (λ (b : Born). b.thread) bs)
+pub none_used : (script : Script) (n : ℕ) (bs : List Born) → EachBorn script n bs
+    → replicate (length bs) None ≡ map use_of_row (map (λ (b : Born). b.thread) bs)
 none_used script n [] h = refl
 none_used script n (b ∷ bs) h =
     let first = unused n b.thread h.0.row in

@@ -55,7 +55,8 @@ never-empty [] e none = cc
 never-empty (x ∷ xs) e none = cc
 
 -- what holds of the way that a kernel is called in, holds of the one that suits it
-pub both-ways : (P : Bool → Type 0) (called shared : Bool) (history : List Entry) → Suits shared (mode_of called history) → P called → (history ≡ [] → P called → P shared) → P shared
+pub both-ways : (P : Bool → Type 0) (called shared : Bool) (history : List Entry)
+    → Suits shared (mode_of called history) → P called → (history ≡ [] → P called → P shared) → P shared
 both-ways P called shared [] suits here fresh = fresh refl here
 both-ways P false false (e ∷ es) suits here fresh = here
 both-ways P true true (e ∷ es) suits here fresh = here
@@ -63,10 +64,15 @@ both-ways P false true (e ∷ es) suits here fresh = absurd (suits refl)
 both-ways P true false (e ∷ es) suits here fresh = absurd (suits refl)
 
 pub same-mode : (called shared : Bool) (history : List Entry) → Suits shared (mode_of called history) → mode_of called history ≡ mode_of shared history
-same-mode called shared history suits = both-ways (λ (b : Bool). mode_of called history ≡ mode_of b history) called shared history suits refl (λ none same. ap (mode_of called) none ∙ sym (ap (mode_of shared) none))
+same-mode called shared history suits =
+    both-ways (λ (b : Bool). mode_of called history ≡ mode_of b history) called shared history suits refl
+    (λ none same. ap (mode_of called) none ∙ sym (ap (mode_of shared) none))
 
-pub legal-in : (script : Script) (called shared : Bool) (history : List Entry) → Suits shared (mode_of called history) → IsLegalIn called script history → IsLegalIn shared script history
-legal-in script called shared history suits legal = both-ways (λ (b : Bool). IsLegalIn b script history) called shared history suits legal (λ none _. subst (IsLegalIn shared script) (sym none) tt)
+pub legal-in : (script : Script) (called shared : Bool) (history : List Entry) → Suits shared (mode_of called history)
+    → IsLegalIn called script history → IsLegalIn shared script history
+legal-in script called shared history suits legal =
+    both-ways (λ (b : Bool). IsLegalIn b script history) called shared history suits legal
+    (λ none _. subst (IsLegalIn shared script) (sym none) tt)
 
 -- at boot nobody is between a find and its return
 back-at-boot : (script : Script) (t : ObjNo) → IsWellFormed script → is_returning (part_of (thread_of (boot_in true script) t)) ≡ false
@@ -84,11 +90,18 @@ waiting-same (Some row) a b back = none a ∙ sym (none b)
 pub able-at-boot : (script : Script) (a b : Bool) (t : ObjNo) → IsWellFormed script → is_able script (boot_in a script) t ≡ is_able script (boot_in b script) t
 able-at-boot script a b t valid =
     let S = boot_in a script in
-    ap (λ (waits : Bool). (not waits && not (is_stopped S t) && is_some (task_of script S t)) && is_none (wanted_holder S.synchronization.nano t)) (waiting-same (thread_of S t) a b (back-at-boot script t valid))
+    ap (λ (waits : Bool). (not waits && not (is_stopped S t) && is_some (task_of script S t)) && is_none
+    (wanted_holder S.synchronization.nano t)) (waiting-same (thread_of S t) a b (back-at-boot script t valid))
 
-pub able-in : (script : Script) (called shared : Bool) (history : List Entry) (t : ObjNo) (able : Bool) → IsWellFormed script → Suits shared (mode_of called history) → able ≡ is_able script (after_in called script history) t → able ≡ is_able script (after_in shared script history) t
-able-in script called shared history t able valid suits is = both-ways (λ (b : Bool). able ≡ is_able script (after_in b script history) t) called shared history suits is
-    (λ none here. here ∙ (ap (λ (es : List Entry). is_able script (after_in called script es) t) none ∙ (able-at-boot script called shared t valid ∙ ap (λ (es : List Entry). is_able script (after_in shared script es) t) (sym none))))
+pub able-in : (script : Script) (called shared : Bool) (history : List Entry) (t : ObjNo) (able : Bool)
+    → IsWellFormed script → Suits shared (mode_of called history)
+    → able ≡ is_able script (after_in called script history) t
+    → able ≡ is_able script (after_in shared script history) t
+able-in script called shared history t able valid suits is =
+    both-ways (λ (b : Bool). able ≡ is_able script (after_in b script history) t) called shared history suits is
+    (λ none here. here ∙ (ap (λ (es : List Entry). is_able script (after_in called script es) t) none
+    ∙ (able-at-boot script called shared t valid
+    ∙ ap (λ (es : List Entry). is_able script (after_in shared script es) t) (sym none))))
 
 -- what is left there is left in both ways
 rows-same : (S : State) (a b : Mode) (n : ℕ) (rows : List (Option ObjectRow)) → rows_of (record S { mode = a }) n rows ≡ rows_of (record S { mode = b }) n rows
@@ -97,20 +110,31 @@ rows-same S a b n (None ∷ rest) = rows-same S a b (n + 1) rest
 rows-same S a b n (Some row ∷ rest) = ap (λ (l : List FinalRow). final_row (record S { mode = a }) n row ∷ l) (rows-same S a b (n + 1) rest)
 
 rows-at-boot : (script : Script) (a b : Bool) (n : ℕ) → rows_from (boot_in a script) n ≡ rows_from (boot_in b script) n
-rows-at-boot script a b n = rows-same (boot_in a script) (record { shared = a; keep = false }) (record { shared = b; keep = false }) n (drop n (boot_in a script).references.objects)
+rows-at-boot script a b n =
+    rows-same (boot_in a script) (record { shared = a; keep = false }) (record { shared = b; keep = false }) n
+    (drop n (boot_in a script).references.objects)
 
 next-same : (f g : ℕ → List FinalRow) → ((n : ℕ) → f n ≡ g n) → (from : ℕ) (row : Option FinalRow) → IsNextRow f from row → IsNextRow g from row
 next-same f g same from None next = sym (same from) ∙ next
 next-same f g same from (Some row) next = sym (same from) ∙ (next ∙ ap (λ (l : List FinalRow). row ∷ l) (same (row.object.0 + 1)))
 
-pub next-row-in : (script : Script) (called shared : Bool) (history : List Entry) (from : ℕ) (row : Option FinalRow) → Suits shared (mode_of called history) → IsNextRow (rows_from (after_in called script history)) from row → IsNextRow (rows_from (after_in shared script history)) from row
-next-row-in script called shared history from row suits next = both-ways (λ (b : Bool). IsNextRow (rows_from (after_in b script history)) from row) called shared history suits next
+pub next-row-in : (script : Script) (called shared : Bool) (history : List Entry) (from : ℕ) (row : Option FinalRow)
+    → Suits shared (mode_of called history) → IsNextRow (rows_from (after_in called script history)) from row
+    → IsNextRow (rows_from (after_in shared script history)) from row
+next-row-in script called shared history from row suits next =
+    both-ways (λ (b : Bool). IsNextRow (rows_from (after_in b script history)) from row) called shared history suits
+    next
     (λ none here. next-same (rows_from (after_in called script history)) (rows_from (after_in shared script history))
-    (λ n. ap (λ (es : List Entry). rows_from (after_in called script es) n) none ∙ (rows-at-boot script called shared n ∙ ap (λ (es : List Entry). rows_from (after_in shared script es) n) (sym none))) from row here)
+    (λ n. ap (λ (es : List Entry). rows_from (after_in called script es) n) none
+    ∙ (rows-at-boot script called shared n ∙ ap (λ (es : List Entry). rows_from (after_in shared script es) n)
+    (sym none))) from row here)
 
 -- no note is out, and so it is as where nobody is
 none-out : (notes : Notes) (s : Slip) → AreNone notes → IsNoteOut notes s → ⊥
-none-out notes s none out = let clash : IsTrue (list_any (λ other. same_slip other s) []) = subst (λ (l : List Slip). IsTrue (list_any (λ other. same_slip other s) l)) none.out out in cc
+none-out notes s none out =
+    let clash : IsTrue (list_any (λ other. same_slip other s) []) =
+    subst (λ (l : List Slip). IsTrue (list_any (λ other. same_slip other s) l)) none.out out in
+    cc
 
 none-notes : (script : Script) (notes : Notes) → IsWellFormed script → AreNone notes → AreNotes [] (boot_in true script) notes
 none-notes script notes valid none =
@@ -123,23 +147,31 @@ none-notes script notes valid none =
     }
 
 -- a core that stands for its history follows it
-pub follows-of : {W : Type 0} (shared : Bool) (script : Script) (history : List Entry) (core : CoreView W) → Stands shared script history core → Follows shared script history core
+pub follows-of : {W : Type 0} (shared : Bool) (script : Script) (history : List Entry) (core : CoreView W)
+    → Stands shared script history core → Follows shared script history core
 follows-of shared script history core h = record { legal = h.legal; state = h.state; queues = h.queues }
 
 -- where callers may share the kernel, its notes are those of who is out
-pub notes-out : {W : Type 0} (called : Bool) (script : Script) (history : List Entry) (core : CoreView W) → Stands called script history core → Suits true (mode_of called history) → AreNotes history (after_in true script history) core.notes
+pub notes-out : {W : Type 0} (called : Bool) (script : Script) (history : List Entry) (core : CoreView W)
+    → Stands called script history core → Suits true (mode_of called history)
+    → AreNotes history (after_in true script history) core.notes
 notes-out true script history core h suits = subst (λ (S : State). AreNotes history S core.notes) h.state h.notes
 notes-out false script [] core h suits = none-notes script core.notes h.valid h.notes
 notes-out false script (e ∷ es) core h suits = absurd (suits refl)
 
 -- and an action begins in the core once it is told so
-pub begins-out : {W : Type 0} (called : Bool) (script : Script) (history : List Entry) (old mid : CoreView W) → Stands called script history old → Suits true (mode_of called history) → mid.state ≡ sharing old.state → mid.ready ≡ old.ready → Begins true script history mid
+pub begins-out : {W : Type 0} (called : Bool) (script : Script) (history : List Entry) (old mid : CoreView W)
+    → Stands called script history old → Suits true (mode_of called history) → mid.state ≡ sharing old.state
+    → mid.ready ≡ old.ready → Begins true script history mid
 begins-out true script history old mid h suits state ready = begins-split script history old mid h.valid (follows-of true script history old h) state ready
 begins-out false script [] old mid h suits state ready = begins-fresh false script old mid h.valid (follows-of false script [] old h) state ready
 begins-out false script (e ∷ es) old mid h suits state ready = absurd (suits refl)
 
 -- at boot a core stands for no entry
-pub boot-kernel : {W : Type 0} (script : Script) (core : CoreView W) (room capacity : ℕ) (identity : List ℕ) → IsWellFormed script → room ≤ 131072 → room ≤ capacity → core.state ≡ boot script → AreReady (priority_of (boot script)) (ready_at_boot script) core.ready → core.notes ≡ no_notes identity → IsKernel script [] core 0 room capacity
+pub boot-kernel : {W : Type 0} (script : Script) (core : CoreView W) (room capacity : ℕ) (identity : List ℕ)
+    → IsWellFormed script → room ≤ 131072 → room ≤ capacity → core.state ≡ boot script
+    → AreReady (priority_of (boot script)) (ready_at_boot script) core.ready → core.notes ≡ no_notes identity
+    → IsKernel script [] core 0 room capacity
 boot-kernel script core room capacity identity valid few fits state queues notes =
     let alone : core.state.mode.shared ≡ false = ap (λ (S : State). S.mode.shared) state in
     record {

@@ -26,10 +26,12 @@ no_row script S t able is =
     let some = able_task script S t able in
     absurd (cc)
 
-pub may_reap : (script : Script) (S : State) (t : ObjNo) (row : Option ThreadRow) → thread_of S t ≡ row → IsTrue (is_able script S t) → Suits script S t row Dies → IsReapable script S t
+pub may_reap : (script : Script) (S : State) (t : ObjNo) (row : Option ThreadRow) → thread_of S t ≡ row
+    → IsTrue (is_able script S t) → Suits script S t row Dies → IsReapable script S t
 may_reap script S t None is able suits = absurd (no_row script S t able is)
 may_reap script S t (Some row) is able suits = record { able = able; row = row; is = is; doomed = suits.0; apart = suits.1 }
 
-pub may_end : (script : Script) (S : State) (t : ObjNo) (row : Option ThreadRow) → thread_of S t ≡ row → IsTrue (is_able script S t) → Suits script S t row Ends → MayEnd S t
+pub may_end : (script : Script) (S : State) (t : ObjNo) (row : Option ThreadRow) → thread_of S t ≡ row
+    → IsTrue (is_able script S t) → Suits script S t row Ends → MayEnd S t
 may_end script S t None is able suits = absurd (no_row script S t able is)
 may_end script S t (Some row) is able suits = record { row = row; is = is; live = suits.0.0; free = suits.0.1 }

@@ -61,7 +61,8 @@ pub record IsFind (actor : Actor) (effects : List Effect) (o : ObjNo) : Type 0 w
   pub acts : actor ≡ Thread thread
   pub tells : effects ≡ Seek o ∷ []
 
-act-find : (script : Script) (S : State) (t o : ObjNo) → IsShaped script → AreRows script S → 0 < finds (act script S t).outcome.effects o → IsFind (Thread t) (act script S t).outcome.effects o
+act-find : (script : Script) (S : State) (t o : ObjNo) → IsShaped script → AreRows script S
+    → 0 < finds (act script S t).outcome.effects o → IsFind (Thread t) (act script S t).outcome.effects o
 unfolding act
 act-find script S t o shaped rows some =
     let bits = finds-tell t (decision_of script S t).moves S o in
@@ -70,16 +71,20 @@ act-find script S t o shaped rows some =
 
 interrupt-none : (script : Script) (S : State) (k : ℕ) (o : ObjNo) → IsShaped script → AreRows script S → finds (interrupt script S k).outcome.effects o ≡ 0
 unfolding interrupt
-interrupt-none script S k o shaped rows = finds-tell supervisor (decision_by script supervisor S (Runs (Interrupt k))).moves S o ∙ (light-interrupt script S k shaped rows).calm.finds o
+interrupt-none script S k o shaped rows =
+    finds-tell supervisor (decision_by script supervisor S (Runs (Interrupt k))).moves S o
+    ∙ (light-interrupt script S k shaped rows).calm.finds o
 
 immediate-none : (script : Script) (S : State) (o : ObjNo) → IsShaped script → AreRows script S → finds (immediate script S).outcome.effects o ≡ 0
 unfolding immediate
 immediate-none script S o shaped rows =
     let plan = immediate_plan script S (next_immediate S.synchronization.deferred) in
-    finds-tell supervisor (decision_by script supervisor S plan).moves S o ∙ (light-immediate script S (next_immediate S.synchronization.deferred) shaped rows refl).calm.finds o
+    finds-tell supervisor (decision_by script supervisor S plan).moves S o
+    ∙ (light-immediate script S (next_immediate S.synchronization.deferred) shaped rows refl).calm.finds o
 
 -- so it is no return
-find-forth : (script : Script) (S : State) (t o : ObjNo) → IsShaped script → AreRows script S → 0 < finds (act script S t).outcome.effects o → is_return (act script S t).outcome.step ≡ false
+find-forth : (script : Script) (S : State) (t o : ObjNo) → IsShaped script → AreRows script S
+    → 0 < finds (act script S t).outcome.effects o → is_return (act script S t).outcome.step ≡ false
 unfolding act
 find-forth script S t o shaped rows some =
     let d = decision_of script S t in
@@ -92,14 +97,18 @@ find-forth script S t o shaped rows some =
     unbit true one = absurd (omega arith)
     unbit false none = refl
 
-pub next-forth : (script : Script) (S : State) (actor : Actor) (o : ObjNo) → IsShaped script → AreRows script S → 0 < finds (transition script S actor).outcome.effects o → is_return (transition script S actor).outcome.step ≡ false
+pub next-forth : (script : Script) (S : State) (actor : Actor) (o : ObjNo) → IsShaped script → AreRows script S
+    → 0 < finds (transition script S actor).outcome.effects o
+    → is_return (transition script S actor).outcome.step ≡ false
 next-forth script S (Thread t) o shaped rows some = find-forth script S t o shaped rows some
 next-forth script S (Irq k) o shaped rows some = let none = interrupt-none script S k o shaped rows in absurd (omega arith)
 next-forth script S Idfc o shaped rows some = let none = immediate-none script S o shaped rows in absurd (omega arith)
 next-forth script S Tick o shaped rows some = absurd (omega arith)
 next-forth script S Idle o shaped rows some = absurd (omega arith)
 
-pub next-find : (script : Script) (S : State) (actor : Actor) (o : ObjNo) → IsShaped script → AreRows script S → 0 < finds (transition script S actor).outcome.effects o → IsFind actor (transition script S actor).outcome.effects o
+pub next-find : (script : Script) (S : State) (actor : Actor) (o : ObjNo) → IsShaped script → AreRows script S
+    → 0 < finds (transition script S actor).outcome.effects o
+    → IsFind actor (transition script S actor).outcome.effects o
 next-find script S (Thread t) o shaped rows some = act-find script S t o shaped rows some
 next-find script S (Irq k) o shaped rows some = let none = interrupt-none script S k o shaped rows in absurd (omega arith)
 next-find script S Idfc o shaped rows some = let none = immediate-none script S o shaped rows in absurd (omega arith)

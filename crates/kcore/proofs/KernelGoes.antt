@@ -36,7 +36,8 @@ use Rattle.kcore.proofs.NotesOut.{back, notes-taken, return-finds-none}
 use Rattle.kcore.proofs.OutKernel.{finder-next, may-send, note-next, notes-next, out-may, was-out}
 
 -- where one caller calls the kernel alone
-module _ {W : Type 0} (script : Script) (history : List Entry) (old : CoreView W) (out room capacity : ℕ) (k : IsKernel script history old out room capacity) (suits : Suits false (mode_of old.state.mode.shared history)) where
+module _ {W : Type 0} (script : Script) (history : List Entry) (old : CoreView W) (out room capacity : ℕ)
+    (k : IsKernel script history old out room capacity) (suits : Suits false (mode_of old.state.mode.shared history)) where
   pub is-alone : old.state.mode.shared ≡ false
   is-alone = alone-of old.state.mode.shared history k.fresh suits
 
@@ -46,7 +47,8 @@ module _ {W : Type 0} (script : Script) (history : List Entry) (old : CoreView W
   pub alone-begins : Begins false script history old
   alone-begins = begins-alone script history old alone-stands.valid (follows-of false script history old alone-stands)
 
-  module _ (new : List Entry) (core : CoreView W) (actor : Actor) (can : CanAct script (after script history) actor) (went : Went script history new old core actor) where
+  module _ (new : List Entry) (core : CoreView W) (actor : Actor) (can : CanAct script (after script history) actor)
+      (went : Went script history new old core actor) where
     pub alone-follows : Follows false script new core
     alone-follows = follows false script history old alone-begins new core actor went can
 
@@ -57,19 +59,33 @@ module _ {W : Type 0} (script : Script) (history : List Entry) (old : CoreView W
     alone-mode = ap (λ (b : Bool). mode_of b new) alone-shared ∙ (ap (mode_of false) went.longer ∙ mode-push false history went.entry)
 
     pub alone-entry : new ≡ history ++ entry_by script (after script history) (length history + 1) actor ∷ []
-    alone-entry = went.longer ∙ ap (λ (e : Entry). history ++ e ∷ []) (tale false script history old alone-begins new core actor went ∙ ap (λ (S : State). entry_by script S (length history + 1) actor) (no_choice script history went.entry))
+    alone-entry =
+        went.longer
+        ∙ ap (λ (e : Entry). history ++ e ∷ [])
+        (tale false script history old alone-begins new core actor went
+        ∙ ap (λ (S : State). entry_by script S (length history + 1) actor) (no_choice script history went.entry))
 
     pub alone-kernel : (more : ℕ) → capacity ≤ more → core.notes ≡ old.notes → IsKernel script new core out room more
     alone-kernel more larger notes = record {
       fits = let fits = k.fits in omega arith;
       few = k.few;
-      stands = subst (λ (b : Bool). Stands b script new core) (sym alone-shared) (record { valid = alone-stands.valid; legal = alone-follows.legal; state = alone-follows.state; queues = alone-follows.queues; notes = subst AreNone (sym notes) alone-stands.notes });
+      stands =
+          subst (λ (b : Bool). Stands b script new core) (sym alone-shared)
+          (record {
+            valid = alone-stands.valid;
+            legal = alone-follows.legal;
+            state = alone-follows.state;
+            queues = alone-follows.queues;
+            notes = subst AreNone (sym notes) alone-stands.notes;
+          });
       counted = k.counted ∙ ap (λ (n : Notes). length n.out) (sym notes);
       fresh = λ _. alone-shared;
     }
 
 -- where callers share it, and it is told so
-module _ {W : Type 0} (script : Script) (history : List Entry) (old mid : CoreView W) (out room capacity : ℕ) (k : IsKernel script history old out room capacity) (suits : Suits true (mode_of old.state.mode.shared history)) (state : mid.state ≡ sharing old.state) (ready : mid.ready ≡ old.ready) (notes : mid.notes ≡ old.notes) where
+module _ {W : Type 0} (script : Script) (history : List Entry) (old mid : CoreView W) (out room capacity : ℕ)
+    (k : IsKernel script history old out room capacity) (suits : Suits true (mode_of old.state.mode.shared history))
+    (state : mid.state ≡ sharing old.state) (ready : mid.ready ≡ old.ready) (notes : mid.notes ≡ old.notes) where
   abbrev S : State
   S = after_in true script history
 
@@ -90,7 +106,9 @@ module _ {W : Type 0} (script : Script) (history : List Entry) (old mid : CoreVi
     more = subst (IsShared script) went.longer out-follows.legal
 
     told : went.entry.effects ≡ (transition script (choosing went.entry S) went.entry.actor).outcome.effects
-    told = ap (λ (e : Entry). e.effects) (tale true script history mid out-begins new core actor went) ∙ ap (λ (a : Actor). (transition script (choosing went.entry S) a).outcome.effects) (sym acts)
+    told =
+        ap (λ (e : Entry). e.effects) (tale true script history mid out-begins new core actor went)
+        ∙ ap (λ (a : Actor). (transition script (choosing went.entry S) a).outcome.effects) (sym acts)
 
     abbrev out-more : OneMore script history new actor
     out-more = record { entry = went.entry; longer = went.longer; told = tale true script history mid out-begins new core actor went }
@@ -105,11 +123,15 @@ module _ {W : Type 0} (script : Script) (history : List Entry) (old mid : CoreVi
     out-mode last same = is-split last.state.mode.shared (ap (λ (T : State). T.mode.shared) same ∙ out-shared)
 
     -- it stands for the longer history, with these notes
-    pub out-kernel : (last : CoreView W) (n larger : ℕ) → last.state ≡ core.state → last.ready ≡ core.ready → AreNotes new (after_in true script new) last.notes → n ≡ length last.notes.out → capacity ≤ larger → IsKernel script new last n room larger
+    pub out-kernel : (last : CoreView W) (n larger : ℕ) → last.state ≡ core.state → last.ready ≡ core.ready
+        → AreNotes new (after_in true script new) last.notes → n ≡ length last.notes.out → capacity ≤ larger
+        → IsKernel script new last n room larger
     out-kernel last n larger same_state same_ready are counted more_room =
         let shared : last.state.mode.shared ≡ true = ap (λ (T : State). T.mode.shared) same_state ∙ out-shared in
         let at : last.state ≡ after_in true script new = same_state ∙ out-follows.state in
-        let here : AreReady (priority_of last.state) (arrived_in true script new) core.ready = subst (λ (T : State). AreReady (priority_of T) (arrived_in true script new) core.ready) (sym same_state) out-follows.queues in
+        let here : AreReady (priority_of last.state) (arrived_in true script new) core.ready =
+        subst (λ (T : State). AreReady (priority_of T) (arrived_in true script new) core.ready)
+        (sym same_state) out-follows.queues in
         record {
           fits = let fits = k.fits in omega arith;
           few = k.few;
@@ -129,20 +151,24 @@ module _ {W : Type 0} (script : Script) (history : List Entry) (old mid : CoreVi
       stays-there : is_out_actor S went.entry.actor ≡ false
       stays-there = ap (is_out_actor S) acts ∙ stays
 
-      pub out-may-send : length history < 131072 → (found : Option ObjNo) → found ≡ found_in went.entry.effects → IfSome found (λ o. MaySend core.notes core.state o)
+      pub out-may-send : length history < 131072 → (found : Option ObjNo) → found ≡ found_in went.entry.effects
+          → IfSome found (λ o. MaySend core.notes core.state o)
       out-may-send short found is =
           let here = may-send script history went.entry k.stands.valid out-begins.legal more told mid.notes out-notes stays-there short found is in
           let there = subst (λ (es : List Entry). IfSome found (λ o. MaySend mid.notes (after_in true script es) o)) (sym went.longer) here in
           let same = subst (λ (T : State). IfSome found (λ o. MaySend mid.notes T o)) (sym out-follows.state) there in
           subst (λ (n : Notes). IfSome found (λ o. MaySend n core.state o)) (sym kept) same
 
-      pub out-notes-next : (found : Option ObjNo) → found ≡ found_in went.entry.effects → AreNotes new (after_in true script new) (notes_after (slip_after found core.notes) core.notes)
+      pub out-notes-next : (found : Option ObjNo) → found ≡ found_in went.entry.effects
+          → AreNotes new (after_in true script new) (notes_after (slip_after found core.notes) core.notes)
       out-notes-next found is =
           let here = notes-next script history went.entry k.stands.valid out-begins.legal more told mid.notes out-notes stays-there found is in
-          let there = subst (λ (es : List Entry). AreNotes es (after_in true script es) (notes_after (slip_after found mid.notes) mid.notes)) (sym went.longer) here in
+          let there = subst (λ (es : List Entry). AreNotes es (after_in true script es)
+          (notes_after (slip_after found mid.notes) mid.notes)) (sym went.longer) here in
           subst (λ (n : Notes). AreNotes new (after_in true script new) (notes_after (slip_after found n) n)) (sym kept) there
 
-      pub out-sends : (found : Option ObjNo) (sent : Option Slip) → found ≡ found_in went.entry.effects → sent ≡ slip_after found core.notes → SendsOut script history new actor sent
+      pub out-sends : (found : Option ObjNo) (sent : Option Slip) → found ≡ found_in went.entry.effects → sent
+          ≡ slip_after found core.notes → SendsOut script history new actor sent
       out-sends found sent is slip =
           let slips : sent ≡ slip_after found mid.notes = slip ∙ ap (slip_after found) kept in
           let note = note-next script history went.entry k.stands.valid out-begins.legal more told mid.notes out-notes stays-there found is in
@@ -151,11 +177,16 @@ module _ {W : Type 0} (script : Script) (history : List Entry) (old mid : CoreVi
             more = out-more;
             forth = back script history went.entry k.stands.valid out-begins.legal more ∙ stays-there;
             note = slips ∙ (note ∙ ap (λ (es : List Entry). note_of es went.entry.effects) (sym went.longer));
-            finder = subst (λ (s : Option Slip). IfSome s (IsFinder new actor)) (sym slips) (subst (λ (a : Actor). IfSome (slip_after found mid.notes) (IsFinder new a)) acts (subst (λ (es : List Entry). IfSome (slip_after found mid.notes) (IsFinder es went.entry.actor)) (sym went.longer) finder));
+            finder =
+                subst (λ (s : Option Slip). IfSome s (IsFinder new actor)) (sym slips)
+                (subst (λ (a : Actor). IfSome (slip_after found mid.notes) (IsFinder new a)) acts
+                (subst (λ (es : List Entry). IfSome (slip_after found mid.notes) (IsFinder es went.entry.actor))
+                (sym went.longer) finder));
           }
 
   -- a thread that comes back with its note
-  module _ (new : List Entry) (core : CoreView W) (s : Slip) (t : ObjNo) (noted : IsNoteOut mid.notes s) (its : finder s.number history ≡ Some t) (went : Went script history new mid core (Thread t)) where
+  module _ (new : List Entry) (core : CoreView W) (s : Slip) (t : ObjNo) (noted : IsNoteOut mid.notes s)
+      (its : finder s.number history ≡ Some t) (went : Went script history new mid core (Thread t)) where
     pub back-out : is_out S t ≡ true
     back-out = was-out script history mid.notes s t out-notes its noted
 

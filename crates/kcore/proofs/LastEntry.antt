@@ -8,14 +8,17 @@ use Rattle.machine.specs.History.{entry_of}
 use Rattle.kcore.specs.Told.{IsTold, told_in}
 
 -- the entry is one of this place and actor, and tells what was done
-pub told_as : (old fresh new : Entry) (place : ℕ) (actor : Actor) (outcome : Outcome) → old ≡ fresh → fresh ≡ entry_of place actor outcome → IsTold old new → new ≡ entry_of place actor (told_in new)
+pub told_as : (old fresh new : Entry) (place : ℕ) (actor : Actor) (outcome : Outcome) → old ≡ fresh
+    → fresh ≡ entry_of place actor outcome → IsTold old new → new ≡ entry_of place actor (told_in new)
 told_as old fresh new place actor outcome is made told = told ∙ ap (λ (e : Entry). entry_of e.place e.actor (told_in new)) (is ∙ made)
 
 module _ (history items : List Entry) (fresh : Entry) (n : ℕ) where
   -- the last entry is the one that was pushed
   pub last_is : (last : Entry) → items ≡ history ++ fresh ∷ [] → n ≡ length history → last ≡ get_or items n last → last ≡ fresh
   last_is last pushed at is =
-      is ∙ (ap (λ (l : List Entry). get_or l n last) pushed ∙ (ap (λ (k : ℕ). get_or (history ++ fresh ∷ []) k last) at ∙ get_or-append_seam history fresh [] last))
+      is
+      ∙ (ap (λ (l : List Entry). get_or l n last) pushed
+      ∙ (ap (λ (k : ℕ). get_or (history ++ fresh ∷ []) k last) at ∙ get_or-append_seam history fresh [] last))
 
   -- another in its place
   pub last_told : (told : Entry) → items ≡ history ++ fresh ∷ [] → n ≡ length history → set items n told ≡ history ++ told ∷ []

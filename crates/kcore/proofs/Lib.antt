@@ -1,6 +1,7 @@
 mod ActionsDone
 pub mod Alone
 mod Backs
+mod BootCounts
 mod BootGroups
 mod BootNano
 mod BootProcs

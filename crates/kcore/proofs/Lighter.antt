@@ -13,13 +13,15 @@ use Rattle.machine_safe.specs.Weight.{weight_in}
 use Rattle.kcore.specs.OneMore.{OneMore}
 
 -- the last entry is its own, and the longer history is safe
-pub lighter : (shared : Bool) (script : Script) (old new : List Entry) (e : Entry) (t : ObjNo) → new ≡ old ++ e ∷ [] → e.actor ≡ Thread t → IsSafeIn shared script new → is_dying (after_in shared script old) t ≡ true
+pub lighter : (shared : Bool) (script : Script) (old new : List Entry) (e : Entry) (t : ObjNo) → new ≡ old ++ e ∷ []
+    → e.actor ≡ Thread t → IsSafeIn shared script new → is_dying (after_in shared script old) t ≡ true
     → weight_in (after_in shared script new) t < weight_in (after_in shared script old) t
 lighter shared script old new e t longer acts safe dying =
     let by : is_by t e.actor ≡ true = ap (is_by t) acts ∙ eq-eqb t.0 t.0 refl in
     subst (λ (es : List Entry). weight_in (after_in shared script es) t < weight_in (after_in shared script old) t) (sym longer)
     ((subst (IsSafeIn shared script) longer safe).weights.lowers old e [] t refl dying by)
 
-pub lighter-more : (script : Script) (old new : List Entry) (t : ObjNo) → OneMore script old new (Thread t) → IsSafeIn true script new → is_dying (after_in true script old) t ≡ true
+pub lighter-more : (script : Script) (old new : List Entry) (t : ObjNo) → OneMore script old new (Thread t)
+    → IsSafeIn true script new → is_dying (after_in true script old) t ≡ true
     → weight_in (after_in true script new) t < weight_in (after_in true script old) t
 lighter-more script old new t more safe dying = lighter true script old new more.entry t more.longer (ap (λ (e : Entry). e.actor) more.told) safe dying

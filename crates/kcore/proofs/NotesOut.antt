@@ -64,7 +64,9 @@ append-more (x ∷ xs) ys zs = ap (λ l. x ∷ l) (append-more xs ys zs)
 
 pub finders-push : (history : List Entry) (e : Entry) → finders (history ++ e ∷ []) ≡ finders history ++ finders_by e.actor (found_in e.effects)
 finders-push [] e = append-none (finders_by e.actor (found_in e.effects))
-finders-push (x ∷ xs) e = ap (λ (l : List ObjNo). finders_by x.actor (found_in x.effects) ++ l) (finders-push xs e) ∙ sym (append-more (finders_by x.actor (found_in x.effects)) (finders xs) (finders_by e.actor (found_in e.effects)))
+finders-push (x ∷ xs) e =
+    ap (λ (l : List ObjNo). finders_by x.actor (found_in x.effects) ++ l) (finders-push xs e)
+    ∙ sym (append-more (finders_by x.actor (found_in x.effects)) (finders xs) (finders_by e.actor (found_in e.effects)))
 
 -- a find of a list is one of a longer list, and the last one of it is the next
 get-front : {A : Type 0} (xs ys : List A) (k : ℕ) (x : A) → slice_get xs k ≡ Some x → slice_get (xs ++ ys) k ≡ Some x
@@ -76,12 +78,16 @@ get-last : {A : Type 0} (xs : List A) (x : A) → slice_get (xs ++ x ∷ []) (le
 get-last [] x = refl
 get-last (y ∷ xs) x = get-last xs x
 
-pub finder-of : (n : ℕ) (history later : List Entry) (ts : List ObjNo) (t : ObjNo) → finders later ≡ finders history ++ ts → finder n history ≡ Some t → finder n later ≡ Some t
+pub finder-of : (n : ℕ) (history later : List Entry) (ts : List ObjNo) (t : ObjNo)
+    → finders later ≡ finders history ++ ts → finder n history ≡ Some t → finder n later ≡ Some t
 finder-of zero history later ts t more is = absurd (cc)
 finder-of (suc k) history later ts t more is = ap (λ (l : List ObjNo). slice_get l k) more ∙ get-front (finders history) ts k t is
 
-finder-last : (n : ℕ) (history later : List Entry) (t : ObjNo) → finders later ≡ finders history ++ t ∷ [] → n ≡ length (finders history) → finder (suc n) later ≡ Some t
-finder-last n history later t more is = ap (λ (l : List ObjNo). slice_get l n) more ∙ (ap (λ (k : ℕ). slice_get (finders history ++ t ∷ []) k) is ∙ get-last (finders history) t)
+finder-last : (n : ℕ) (history later : List Entry) (t : ObjNo) → finders later ≡ finders history ++ t ∷ []
+    → n ≡ length (finders history) → finder (suc n) later ≡ Some t
+finder-last n history later t more is =
+    ap (λ (l : List ObjNo). slice_get l n) more
+    ∙ (ap (λ (k : ℕ). slice_get (finders history ++ t ∷ []) k) is ∙ get-last (finders history) t)
 
 -- whoever is out is returning
 and-parts : (shared b : Bool) → (shared && b) ≡ false → shared ≡ true → b ≡ true → ⊥
@@ -109,7 +115,8 @@ by-thread : (t : ObjNo) → is_by t (Thread t) ≡ true
 by-thread t = eq-eqb t.0 t.0 refl
 
 -- whoever is out isn't an actor that isn't
-pub apart : (S : State) (u o : ObjNo) (actor : Actor) → S.mode.shared ≡ true → is_out_actor S actor ≡ false → 0 < seeks o (thread_of S u) → is_by u actor ≡ false
+pub apart : (S : State) (u o : ObjNo) (actor : Actor) → S.mode.shared ≡ true → is_out_actor S actor ≡ false
+    → 0 < seeks o (thread_of S u) → is_by u actor ≡ false
 apart S u o actor shared stays some = by (is_by u actor) refl
   where
     by : (b : Bool) → is_by u actor ≡ b → b ≡ false
@@ -120,7 +127,8 @@ apart S u o actor shared stays some = by (is_by u actor) refl
     by false e = refl
 
 -- the thread of a note that is out
-pub note-out : (history : List Entry) (S : State) (notes : Notes) (s : Slip) (t : ObjNo) → AreNotes history S notes → IsNoteOut notes s → finder s.number history ≡ Some t → 0 < seeks (record { 0 = s.place }) (thread_of S t)
+pub note-out : (history : List Entry) (S : State) (notes : Notes) (s : Slip) (t : ObjNo) → AreNotes history S notes
+    → IsNoteOut notes s → finder s.number history ≡ Some t → 0 < seeks (record { 0 = s.place }) (thread_of S t)
 note-out history S notes s t h out is =
     let n = h.each s out in
     let same_thread : n.thread ≡ t = (let its = n.its in cc) in
@@ -130,7 +138,8 @@ note-out history S notes s t h out is =
 abbrev pub words_like : Notes → Words
 words_like notes = record { own = []; stages = []; out = notes.out; made = notes.made; identity = notes.identity }
 
-module _ (script : Script) (history : List Entry) (e : Entry) (valid : IsWellFormed script) (legal : IsShared script history) (more : IsShared script (history ++ e ∷ [])) where
+module _ (script : Script) (history : List Entry) (e : Entry) (valid : IsWellFormed script)
+    (legal : IsShared script history) (more : IsShared script (history ++ e ∷ [])) where
   abbrev S : State
   S = after_in true script history
 
@@ -177,7 +186,11 @@ module _ (script : Script) (history : List Entry) (e : Entry) (valid : IsWellFor
 
   -- a find puts one more out
   pub away-found : (o : ObjNo) → found_in e.effects ≡ Some o → is_out_actor S e.actor ≡ false → away T ≡ away S + 1
-  away-found o is stays = let count = counted in let none_back = stays-bit stays in let times : times_found e.effects ≡ 1 = ap times_found (find o is).tells in omega arith
+  away-found o is stays =
+      let count = counted in
+      let none_back = stays-bit stays in
+      let times : times_found e.effects ≡ 1 = ap times_found (find o is).tells in
+      omega arith
 
   -- and is no return
   pub return-finds-none : is_return e.step ≡ true → found_in e.effects ≡ None
@@ -194,7 +207,8 @@ module _ (script : Script) (history : List Entry) (e : Entry) (valid : IsWellFor
           let clash : true ≡ false = sym returns ∙ (ap is_return step ∙ forth) in absurd (cc)
 
   -- a note of a thread that doesn't act stays its note
-  note-stays : (s : Slip) (ts : List ObjNo) → finders new ≡ finders history ++ ts → (n : IsNoteOf history S s) → is_by n.thread e.actor ≡ false → IsNoteOf new T s
+  note-stays : (s : Slip) (ts : List ObjNo) → finders new ≡ finders history ++ ts → (n : IsNoteOf history S s)
+      → is_by n.thread e.actor ≡ false → IsNoteOf new T s
   note-stays s ts longer n other = record {
     thread = n.thread;
     its = finder-of s.number history new ts n.thread longer n.its;
@@ -204,7 +218,8 @@ module _ (script : Script) (history : List Entry) (e : Entry) (valid : IsWellFor
   -- an entry that finds nothing, of an actor that isn't out, leaves who is out
   pub notes-kept : (notes : Notes) → found_in e.effects ≡ None → is_out_actor S e.actor ≡ false → AreNotes history S notes → AreNotes new T notes
   notes-kept notes none stays h =
-      let longer : finders new ≡ finders history ++ [] = finders-push history e ∙ ap (λ (l : List ObjNo). finders history ++ l) (ap (finders_by e.actor) none ∙ finders-none e.actor) in
+      let longer : finders new ≡ finders history ++ [] = finders-push history e
+      ∙ ap (λ (l : List ObjNo). finders history ++ l) (ap (finders_by e.actor) none ∙ finders-none e.actor) in
       let same_finders : finders new ≡ finders history = longer ∙ append-none (finders history) in
       let count = counted in
       let none_back = stays-bit stays in
@@ -222,13 +237,22 @@ module _ (script : Script) (history : List Entry) (e : Entry) (valid : IsWellFor
 
   -- whose find has the next number
   finders-longer : (o : ObjNo) (is : found_in e.effects ≡ Some o) → finders new ≡ finders history ++ (find o is).thread ∷ []
-  finders-longer o is = finders-push history e ∙ ap (λ (l : List ObjNo). finders history ++ l) (ap (finders_by e.actor) is ∙ ap (λ (a : Actor). finders_by a (Some o)) (find o is).acts)
+  finders-longer o is =
+      finders-push history e
+      ∙ ap (λ (l : List ObjNo). finders history ++ l)
+      (ap (finders_by e.actor) is ∙ ap (λ (a : Actor). finders_by a (Some o)) (find o is).acts)
 
-  pub finder-sent : (notes : Notes) (o : ObjNo) → found_in e.effects ≡ Some o → AreNotes history S notes → IsFinder new e.actor (record { place = o.0; number = notes.made + 1 })
-  finder-sent notes o is h = record { thread = (find o is).thread; acts = (find o is).acts; its = rw add-one (finder-last notes.made history new (find o is).thread (finders-longer o is) h.made) }
+  pub finder-sent : (notes : Notes) (o : ObjNo) → found_in e.effects ≡ Some o → AreNotes history S notes
+      → IsFinder new e.actor (record { place = o.0; number = notes.made + 1 })
+  finder-sent notes o is h = record {
+    thread = (find o is).thread;
+    acts = (find o is).acts;
+    its = rw add-one (finder-last notes.made history new (find o is).thread (finders-longer o is) h.made);
+  }
 
   -- an entry that finds an object sends a note out
-  pub notes-sent : (notes : Notes) (o : ObjNo) → found_in e.effects ≡ Some o → is_out_actor S e.actor ≡ false → AreNotes history S notes → AreNotes new T (notes_sent notes o.0)
+  pub notes-sent : (notes : Notes) (o : ObjNo) → found_in e.effects ≡ Some o → is_out_actor S e.actor ≡ false
+      → AreNotes history S notes → AreNotes new T (notes_sent notes o.0)
   notes-sent notes o is stays h =
       let f = find o is in
       let t = f.thread in
@@ -240,8 +264,16 @@ module _ (script : Script) (history : List Entry) (e : Entry) (valid : IsWellFor
       let own : 0 < seeks o (thread_of T t) = (let out = turn.own t o by_t in let some = found-some e.effects o is in omega arith) in
       let mine : finder (notes.made + 1) new ≡ Some t = rw add-one (finder-last notes.made history new t longer h.made) in
       record {
-        made = let was = h.made in let grown : length (finders new) ≡ length (finders history) + 1 = ap length longer ∙ length-append (finders history) (t ∷ []) in omega arith;
-        many = let was = h.many in let grown : length (notes.out ++ record { place = o.0; number = notes.made + 1 } ∷ []) ≡ length notes.out + 1 = length-append notes.out _ in omega arith;
+        made =
+            let was = h.made in
+            let grown : length (finders new) ≡ length (finders history) + 1 =
+            ap length longer ∙ length-append (finders history) (t ∷ []) in
+            omega arith;
+        many =
+            let was = h.many in
+            let grown : length (notes.out ++ record { place = o.0; number = notes.made + 1 } ∷ []) ≡ length notes.out + 1 =
+            length-append notes.out _ in
+            omega arith;
         each = λ s out. elim (out-before_send (words_like notes) o.0 s out) as (λ _. IsNoteOf new T s) [
           | inl old ↦ let n = h.each s old in note-stays s (t ∷ []) longer n (apart S n.thread (record { 0 = s.place }) e.actor shared stays n.away)
           | inr last ↦ subst (IsNoteOf new T) last (record { thread = t; its = mine; away = own })
@@ -257,14 +289,18 @@ module _ (script : Script) (history : List Entry) (e : Entry) (valid : IsWellFor
             | inr last ↦ absurd (fresh s notes t (t ∷ []) longer h old by_t stays (same_find ∙ (ap (λ (x : Slip). finder x.number new) (sym last) ∙ mine)))
           ]
           | inr last ↦ elim (out-before_send (words_like notes) o.0 r other) as (λ _. s ≡ r) [
-            | inl older ↦ absurd (fresh r notes t (t ∷ []) longer h older by_t stays (sym same_find ∙ (ap (λ (x : Slip). finder x.number new) (sym last) ∙ mine)))
+            | inl older ↦
+                absurd (fresh r notes t (t ∷ []) longer h older by_t stays
+                (sym same_find ∙ (ap (λ (x : Slip). finder x.number new) (sym last) ∙ mine)))
             | inr later ↦ sym last ∙ later
           ]
         ];
       }
     where
       -- whoever acts had no note yet
-      fresh : (s : Slip) (notes : Notes) (t : ObjNo) (ts : List ObjNo) → finders new ≡ finders history ++ ts → AreNotes history S notes → IsNoteOut notes s → is_by t e.actor ≡ true → is_out_actor S e.actor ≡ false → finder s.number new ≡ Some t → ⊥
+      fresh : (s : Slip) (notes : Notes) (t : ObjNo) (ts : List ObjNo) → finders new ≡ finders history ++ ts
+          → AreNotes history S notes → IsNoteOut notes s → is_by t e.actor ≡ true → is_out_actor S e.actor ≡ false
+          → finder s.number new ≡ Some t → ⊥
       fresh s notes t ts longer h old by stays is =
           let n = h.each s old in
           let its = finder-of s.number history new ts n.thread longer n.its in
@@ -273,9 +309,12 @@ module _ (script : Script) (history : List Entry) (e : Entry) (valid : IsWellFor
           let acts : is_by n.thread e.actor ≡ true = ap (λ (u : ObjNo). is_by u e.actor) same_thread ∙ by in absurd (cc)
 
   -- a return takes its thread's note back
-  pub notes-taken : (notes : Notes) (s : Slip) (t : ObjNo) → e.actor ≡ Thread t → found_in e.effects ≡ None → IsNoteOut notes s → finder s.number history ≡ Some t → length (without s notes.out) + 1 ≡ length notes.out → AreNotes history S notes → AreNotes new T (notes_back s notes)
+  pub notes-taken : (notes : Notes) (s : Slip) (t : ObjNo) → e.actor ≡ Thread t → found_in e.effects ≡ None
+      → IsNoteOut notes s → finder s.number history ≡ Some t → length (without s notes.out) + 1 ≡ length notes.out
+      → AreNotes history S notes → AreNotes new T (notes_back s notes)
   notes-taken notes s t acts none out its fewer h =
-      let longer : finders new ≡ finders history ++ [] = finders-push history e ∙ ap (λ (l : List ObjNo). finders history ++ l) (ap (finders_by e.actor) none ∙ finders-none e.actor) in
+      let longer : finders new ≡ finders history ++ [] = finders-push history e
+      ∙ ap (λ (l : List ObjNo). finders history ++ l) (ap (finders_by e.actor) none ∙ finders-none e.actor) in
       let same_finders : finders new ≡ finders history = longer ∙ append-none (finders history) in
       let count = counted in
       let was_out = out-of S t (record { 0 = s.place }) shared (note-out history S notes s t h out its) in
@@ -288,7 +327,10 @@ module _ (script : Script) (history : List Entry) (e : Entry) (valid : IsWellFor
             let there = out-before_take Held (words_like notes) r s rest in
             let n = h.each r there in
             note-stays r [] longer n (other r n (is_by n.thread e.actor) refl there rest);
-        once = λ r q one two same_find. h.once r q (out-before_take Held (words_like notes) r s one) (out-before_take Held (words_like notes) q s two) (sym (same-finder r.number same_finders) ∙ (same_find ∙ same-finder q.number same_finders));
+        once =
+            λ r q one two same_find. h.once r q (out-before_take Held (words_like notes) r s one)
+            (out-before_take Held (words_like notes) q s two)
+            (sym (same-finder r.number same_finders) ∙ (same_find ∙ same-finder q.number same_finders));
       }
     where
       same-finder : (n : ℕ) → finders new ≡ finders history → finder n new ≡ finder n history

@@ -86,13 +86,18 @@ out-may script S t out = ap (λ (b : Bool). is_able script S t || b) out ∙ or-
 pub able-apart : (script : Script) (S : State) (t : ObjNo) → S.mode.shared ≡ true → is_able script S t ≡ true → is_out S t ≡ false
 able-apart script S t shared able = ap (λ (s : Bool). s && is_returning (part_of (thread_of S t))) shared ∙ able-back script S t shared able
 
-pub slot-apart : (script : Script) (S : State) (qs : List ObjNo) (s : Slot) → S.mode.shared ≡ true → IsWellFormedState script S qs → is_out_actor S (slot_actor S qs s) ≡ false
-slot-apart script S qs slot.Go shared formed = of-chosen script S qs (λ (actor : Actor). is_out_actor S actor ≡ false) formed refl refl (λ u able. able-apart script S u shared able)
+pub slot-apart : (script : Script) (S : State) (qs : List ObjNo) (s : Slot) → S.mode.shared ≡ true
+    → IsWellFormedState script S qs → is_out_actor S (slot_actor S qs s) ≡ false
+slot-apart script S qs slot.Go shared formed =
+    of-chosen script S qs (λ (actor : Actor). is_out_actor S actor ≡ false) formed refl refl
+    (λ u able. able-apart script S u shared able)
 slot-apart script S qs (slot.Irq k) shared formed = refl
 slot-apart script S qs slot.Tick shared formed = refl
 
 -- what asks for the choice, in a core in which an action begins
-pub may-in : {W : Type 0} (script : Script) (history : List Entry) (core : CoreView W) (t : ObjNo) (notes : Notes) → Begins true script history core → AreSoughtBeside t notes (after_in true script history) → MayChoose t notes core.state
+pub may-in : {W : Type 0} (script : Script) (history : List Entry) (core : CoreView W) (t : ObjNo) (notes : Notes)
+    → Begins true script history core → AreSoughtBeside t notes (after_in true script history)
+    → MayChoose t notes core.state
 may-in script history core t notes h beside =
     let S = after_in true script history in
     let shared : S.mode.shared ≡ true = shared-after script (boot_in true script) history in
@@ -100,25 +105,44 @@ may-in script history core t notes h beside =
       unchosen = ap (λ (T : State). T.mode.keep) h.state ∙ sym (ap (λ (T : State). T.mode.shared) h.state ∙ shared);
       sought = subst (AreSoughtBeside t notes) (sym h.state) (λ o has.
           let was = beside o has in (
-            record { shared = was.0.shared; finder = was.0.finder; back = record { row = was.0.back.row; is = was.0.back.is; returns = was.0.back.returns; found = was.0.back.found } },
+            record {
+              shared = was.0.shared;
+              finder = was.0.finder;
+              back = record {
+                row = was.0.back.row;
+                is = was.0.back.is;
+                returns = was.0.back.returns;
+                found = was.0.back.found;
+              };
+            },
             was.1,
           ));
     }
 
-pub may-shared : {W : Type 0} (script : Script) (history : List Entry) (core : CoreView W) (notes : Notes) (actor : Actor) → Begins true script history core → AreNotes history (after_in true script history) notes → is_out_actor (after_in true script history) actor ≡ false → MayChoose (acting actor) notes core.state
-may-shared script history core notes actor h are stays = may-in script history core (acting actor) notes h (sought script history h.valid h.legal notes actor are stays)
+pub may-shared : {W : Type 0} (script : Script) (history : List Entry) (core : CoreView W) (notes : Notes)
+    (actor : Actor)
+    → Begins true script history core → AreNotes history (after_in true script history) notes
+    → is_out_actor (after_in true script history) actor ≡ false → MayChoose (acting actor) notes core.state
+may-shared script history core notes actor h are stays =
+    may-in script history core (acting actor) notes h (sought script history h.valid h.legal notes actor are stays)
 
-pub may-alone : {W : Type 0} (script : Script) (history : List Entry) (core : CoreView W) (notes : Notes) (t : ObjNo) → Begins false script history core → AreNone notes → MayChoose t notes core.state
+pub may-alone : {W : Type 0} (script : Script) (history : List Entry) (core : CoreView W) (notes : Notes) (t : ObjNo)
+    → Begins false script history core → AreNone notes → MayChoose t notes core.state
 may-alone script history core notes t h none = record {
   unchosen = ap (λ (T : State). T.mode.keep) h.state ∙ sym (ap (λ (T : State). T.mode.shared) h.state ∙ alone_after script history);
-  sought = λ o has. let clash : IsTrue (list_any (λ (s : Slip). s.place == o.0) []) = subst (λ (l : List Slip). IsTrue (list_any (λ s. s.place == o.0) l)) none.out has in absurd (cc);
+  sought =
+      λ o has. let clash : IsTrue (list_any (λ (s : Slip). s.place == o.0) []) = subst
+      (λ (l : List Slip). IsTrue (list_any (λ s. s.place == o.0) l)) none.out has in absurd (cc);
 }
 
 -- whoever is out returns next
 at-after : (script : Script) (history : List Entry) → IsWellFormed script → IsShared script history → AtFinds script (after_in true script history)
-at-after script history valid legal = (stands-rest script (formed_is_shaped script valid) (boot_in true script) 1 history [] (stands-boot true script (history ++ []) valid (subst (IsShared script) (sym (append-none history)) legal))).1.at
+at-after script history valid legal =
+    (stands-rest script (formed_is_shaped script valid) (boot_in true script) 1 history []
+    (stands-boot true script (history ++ []) valid (subst (IsShared script) (sym (append-none history)) legal))).1.at
 
-returns-by : (script : Script) (S : State) (t o : ObjNo) (back : ComesBack S t o) (i : Instr) → finds_by_name (Some i) ≡ true → decision_of script S t ≡ return_of S t back.row i → ReturnsTo script S t o
+returns-by : (script : Script) (S : State) (t o : ObjNo) (back : ComesBack S t o) (i : Instr)
+    → finds_by_name (Some i) ≡ true → decision_of script S t ≡ return_of S t back.row i → ReturnsTo script S t o
 returns-by script S t o back (instr.Open kind name x) by_name is = record { back = back; word = word.Open; part = part.Do; decides = is }
 returns-by script S t o back (instr.Connect name slots x) by_name is = record { back = back; word = word.Connect; part = part.Make; decides = is }
 returns-by script S t o back i by_name is = absurd (cc)
@@ -129,12 +153,20 @@ returns-to script S t o at out back = by (instruction script back.row) refl
     by : (x : Option Instr) → instruction script back.row ≡ x → ReturnsTo script S t o
     by None e = let found = at t back.row back.is back.returns in let none = ap finds_by_name e in absurd (cc)
     by (Some i) e =
-        let acts : decision_of script S t ≡ decision_of_row script S t (thread_of S t) (task_of script S t) = ap (λ (b : Bool). decision_where script b S t (task_of script S t)) (out-may script S t out) in
-        let there : decision_of_row script S t (thread_of S t) (task_of script S t) ≡ decision_of_row script S t (Some back.row) (task_of_row script S t (Some back.row)) = ap (λ (x : Option ThreadRow). decision_of_row script S t x (task_of_row script S t x)) back.is in
-        returns-by script S t o back i (sym (ap finds_by_name e) ∙ at t back.row back.is back.returns) (acts ∙ (there ∙ return-first script S t back.row (is_returning back.row.part) (instruction script back.row) _ i back.returns e))
+        let acts : decision_of script S t ≡ decision_of_row script S t (thread_of S t) (task_of script S t) =
+        ap (λ (b : Bool). decision_where script b S t (task_of script S t)) (out-may script S t out) in
+        let there : decision_of_row script S t (thread_of S t) (task_of script S t)
+        ≡ decision_of_row script S t (Some back.row) (task_of_row script S t (Some back.row)) =
+        ap (λ (x : Option ThreadRow). decision_of_row script S t x (task_of_row script S t x)) back.is in
+        returns-by script S t o back i (sym (ap finds_by_name e) ∙ at t back.row back.is back.returns)
+        (acts ∙ (there ∙ return-first script S t back.row (is_returning back.row.part)
+        (instruction script back.row) _ i back.returns e))
 
 -- so a thread comes back with its note
-pub may-come : {W : Type 0} (script : Script) (history : List Entry) (core : CoreView W) (notes : Notes) (s : Slip) (t : ObjNo) → Begins true script history core → AreNotes history (after_in true script history) notes → finder s.number history ≡ Some t → MayComeBack script s t notes core.state
+pub may-come : {W : Type 0} (script : Script) (history : List Entry) (core : CoreView W) (notes : Notes) (s : Slip)
+    (t : ObjNo)
+    → Begins true script history core → AreNotes history (after_in true script history) notes
+    → finder s.number history ≡ Some t → MayComeBack script s t notes core.state
 may-come script history core notes s t h are its =
     let S = after_in true script history in
     let shared : S.mode.shared ≡ true = shared-after script (boot_in true script) history in
@@ -145,12 +177,17 @@ may-come script history core notes s t h are its =
           let row = out-on S t o some in
           let T = keeping true S in
           let back : ComesBack T t o = record { row = row.row; is = row.is; returns = row.returns; found = row.found } in
-          subst (λ (U : State). ReturnsTo script U t o) (sym h.state) (returns-to script T t o (at-after script history h.valid h.legal) (out-of S t o shared some) back);
+          subst (λ (U : State). ReturnsTo script U t o) (sym h.state)
+          (returns-to script T t o (at-after script history h.valid h.legal) (out-of S t o shared some) back);
       rest = λ noted. may-in script history core t (notes_back s notes) h (sought-back script history h.valid h.legal notes s t are noted its);
     }
 
-pub was-out : (script : Script) (history : List Entry) (notes : Notes) (s : Slip) (t : ObjNo) → AreNotes history (after_in true script history) notes → finder s.number history ≡ Some t → IsNoteOut notes s → is_out (after_in true script history) t ≡ true
-was-out script history notes s t are its noted = out-of (after_in true script history) t (record { 0 = s.place }) (shared-after script (boot_in true script) history) (note-out history (after_in true script history) notes s t are noted its)
+pub was-out : (script : Script) (history : List Entry) (notes : Notes) (s : Slip) (t : ObjNo)
+    → AreNotes history (after_in true script history) notes → finder s.number history ≡ Some t → IsNoteOut notes s
+    → is_out (after_in true script history) t ≡ true
+was-out script history notes s t are its noted =
+    out-of (after_in true script history) t (record { 0 = s.place }) (shared-after script (boot_in true script) history)
+    (note-out history (after_in true script history) notes s t are noted its)
 
 -- a note that is out is one at least
 pub one-noted : (out : List Slip) (s : Slip) → IsTrue (list_any (λ other. same_slip other s) out) → 1 ≤ length out
@@ -164,7 +201,11 @@ finders-one actor found = omega arith
 
 pub finders-few : (history : List Entry) → length (finders history) ≤ length history
 finders-few [] = omega arith
-finders-few (e ∷ es) = let rest = finders-few es in let one = finders-one e.actor (found_in e.effects) in let sum = length-append (finders_by e.actor (found_in e.effects)) (finders es) in omega arith
+finders-few (e ∷ es) =
+    let rest = finders-few es in
+    let one = finders-one e.actor (found_in e.effects) in
+    let sum = length-append (finders_by e.actor (found_in e.effects)) (finders es) in
+    omega arith
 
 -- what has no reference isn't alive, if whatever is alive has one
 not-alive : (row : Option ObjectRow) (n : ℕ) → (IsAlive row → 0 < n) → n ≡ 0 → is_alive row ≡ false
@@ -179,7 +220,11 @@ not-alive (Some row) n counted none = by row.dead refl
 abbrev named : ℕ → Option ObjNo → Option Slip
 named n x = option_map (λ (o : ObjNo). record { place = o.0; number = n }) x
 
-module _ (script : Script) (history : List Entry) (e : Entry) (valid : IsWellFormed script) (legal : IsShared script history) (more : IsShared script (history ++ e ∷ [])) (told : e.effects ≡ (transition script (choosing e (after_in true script history)) e.actor).outcome.effects) (notes : Notes) (are : AreNotes history (after_in true script history) notes) (stays : is_out_actor (after_in true script history) e.actor ≡ false) where
+module _ (script : Script) (history : List Entry) (e : Entry) (valid : IsWellFormed script)
+    (legal : IsShared script history) (more : IsShared script (history ++ e ∷ []))
+    (told : e.effects ≡ (transition script (choosing e (after_in true script history)) e.actor).outcome.effects)
+    (notes : Notes) (are : AreNotes history (after_in true script history) notes)
+    (stays : is_out_actor (after_in true script history) e.actor ≡ false) where
   abbrev S : State
   S = after_in true script history
 
@@ -207,7 +252,8 @@ module _ (script : Script) (history : List Entry) (e : Entry) (valid : IsWellFor
       let bits = finds-tell t d.moves X o in
       let f = finding script X t shaped rows o (omega arith) in
       let Y = moved t (Find t o) X in
-      let left : T ≡ Y = after-push true script history e ∙ (ap (λ (a : Actor). (transition script X a).state) acts ∙ ap (λ (ms : List Move). perform t ms X) f.moves) in
+      let left : T ≡ Y = after-push true script history e
+      ∙ (ap (λ (a : Actor). (transition script X a).state) acts ∙ ap (λ (ms : List Move). perform t ms X) f.moves) in
       let runs : MovesRun script t (Find t o ∷ []) X = subst (λ (ms : List Move). MovesRun script t ms X) f.moves (action_runs script X t shaped rows) in
       let refs = runs.0.refs.each o in
       let inside : o.0 < length X.references.objects = elim (fits-action script X t shaped rows) as (λ _. o.0 < length X.references.objects) [
@@ -216,7 +262,9 @@ module _ (script : Script) (history : List Entry) (e : Entry) (valid : IsWellFor
       ] in
       record {
         made = subst (λ (U : State). o.0 < length U.references.objects) (sym left) inside;
-        known = subst (λ (U : State). count_of U o ≡ 0 → is_alive (object_of U o) ≡ false) (sym left) (λ none. not-alive (object_of X o) (count_of X o) f.counted (omega arith));
+        known =
+            subst (λ (U : State). count_of U o ≡ 0 → is_alive (object_of U o) ≡ false) (sym left)
+            (λ none. not-alive (object_of X o) (count_of X o) f.counted (omega arith));
       }
 
   found-next : (o : ObjNo) → found_in e.effects ≡ Some o → Found o
@@ -256,7 +304,9 @@ module _ (script : Script) (history : List Entry) (e : Entry) (valid : IsWellFor
   pub note-next : (found : Option ObjNo) → found ≡ found_in e.effects → slip_after found notes ≡ note_of (history ++ e ∷ []) e.effects
   note-next found is = by found is (notes-next found is)
     where
-      by : (x : Option ObjNo) → x ≡ found_in e.effects → AreNotes (history ++ e ∷ []) T (notes_after (slip_after x notes) notes) → slip_after x notes ≡ note_of (history ++ e ∷ []) e.effects
+      by : (x : Option ObjNo) → x ≡ found_in e.effects
+          → AreNotes (history ++ e ∷ []) T (notes_after (slip_after x notes) notes) → slip_after x notes
+          ≡ note_of (history ++ e ∷ []) e.effects
       by None is h = ap (named (length (finders (history ++ e ∷ [])))) is
       by (Some o) is h = ap (λ (n : ℕ). named n (Some o)) h.made ∙ ap (named (length (finders (history ++ e ∷ [])))) is
 

@@ -25,11 +25,18 @@ chosen-same S a b qs slot.Go = refl
 chosen-same S a b qs (slot.Irq k) = refl
 chosen-same S a b qs slot.Tick = refl
 
-pub slot-out : {W : Type 0} (script : Script) (history : List Entry) (core : CoreView W) (s : Slot) (actor : Actor) → Stands core.state.mode.shared script history core → Suits true (mode_of core.state.mode.shared history) → ((qs : List ObjNo) → AreQueuesOf (pairs (priority_of core.state) qs) core.ready → actor ≡ slot_actor core.state qs s)
+pub slot-out : {W : Type 0} (script : Script) (history : List Entry) (core : CoreView W) (s : Slot) (actor : Actor)
+    → Stands core.state.mode.shared script history core → Suits true (mode_of core.state.mode.shared history)
+    → ((qs : List ObjNo) → AreQueuesOf (pairs (priority_of core.state) qs) core.ready → actor
+    ≡ slot_actor core.state qs s)
     → actor ≡ slot_actor (after_in true script history) (arrived_in true script history) s
 slot-out script history core s actor stands suits chosen_is = by core.state.mode.shared history stands suits
   where
-    by : (called : Bool) (es : List Entry) → Stands called script es core → Suits true (mode_of called es) → actor ≡ slot_actor (after_in true script es) (arrived_in true script es) s
+    by : (called : Bool) (es : List Entry) → Stands called script es core → Suits true (mode_of called es) → actor
+        ≡ slot_actor (after_in true script es) (arrived_in true script es) s
     by true es h suits = chosen_is (arrived_in true script es) h.queues.queues ∙ ap (λ (S : State). slot_actor S (arrived_in true script es) s) h.state
-    by false [] h suits = chosen_is (ready_at_boot script) h.queues.queues ∙ (ap (λ (S : State). slot_actor S (ready_at_boot script) s) h.state ∙ chosen-same (boot_in false script) (record { shared = false; keep = false }) (record { shared = true; keep = false }) (ready_at_boot script) s)
+    by false [] h suits = chosen_is (ready_at_boot script) h.queues.queues
+        ∙ (ap (λ (S : State). slot_actor S (ready_at_boot script) s) h.state
+        ∙ chosen-same (boot_in false script) (record { shared = false; keep = false })
+        (record { shared = true; keep = false }) (ready_at_boot script) s)
     by false (e ∷ es) h suits = absurd (suits refl)

@@ -89,59 +89,93 @@ leave_calm S (Immediate item) = refl
 leave_calm S (Deferred dfc) = refl
 
 -- behind such moves an actor may go on as it began
-sought_on : (script : Script) (t : ObjNo) (ms : List Move) (notes : Notes) (S : State) → MovesGo script t ms S → AreSoughtBeside t notes S → AreSoughtBeside t notes (perform t ms S)
+sought_on : (script : Script) (t : ObjNo) (ms : List Move) (notes : Notes) (S : State) → MovesGo script t ms S
+    → AreSoughtBeside t notes S → AreSoughtBeside t notes (perform t ms S)
 sought_on script t [] notes S go sought = sought
 sought_on script t (m ∷ ms) notes S go sought = sought_on script t ms notes (moved t m S) go.1 (λ o noted.
     let was = sought o noted in (
-      record { shared = ap (λ (mode : Mode). mode.shared) (mode-moved S t m) ∙ was.0.shared; finder = was.0.finder; back = go.0.runs.out was.0.finder o was.1 was.0.back },
+      record {
+        shared = ap (λ (mode : Mode). mode.shared) (mode-moved S t m) ∙ was.0.shared;
+        finder = was.0.finder;
+        back = go.0.runs.out was.0.finder o was.1 was.0.back;
+      },
       was.1,
     ))
 
-pub may_after : (script : Script) (t : ObjNo) (ms : List Move) (notes : Notes) (old new : State) (before after : Ready) (was is : List Effect) → ((keep : Bool) → MovesGo script t ms (keeping keep old)) → total closing_bit ms ≡ 0 → IsPerformed script t ms old new before after was is → MayChoose t notes old → MayChoose t notes new
+pub may_after : (script : Script) (t : ObjNo) (ms : List Move) (notes : Notes) (old new : State) (before after : Ready)
+    (was is : List Effect)
+    → ((keep : Bool) → MovesGo script t ms (keeping keep old)) → total closing_bit ms ≡ 0
+    → IsPerformed script t ms old new before after was is → MayChoose t notes old → MayChoose t notes new
 may_after script t ms notes old new before after was is go none done may =
     let left = calm_state script t ms old new before after was is none done in
     record {
-      unchosen = unchosen script t ms old new before after was is none done ∙ may.unchosen ∙ sym (ap (λ (U : State). U.mode.shared) left ∙ ap (λ (mode : Mode). mode.shared) (mode-perform old t ms));
+      unchosen =
+          unchosen script t ms old new before after was is none done
+          ∙ may.unchosen
+          ∙ sym (ap (λ (U : State). U.mode.shared) left ∙ ap (λ (mode : Mode). mode.shared) (mode-perform old t ms));
       sought = subst (AreSoughtBeside t notes) (sym left) (sought_on script t ms notes old (go old.mode.keep) may.sought);
     }
 
 -- some operations are done, and the others are left
-pub record OpsRun (script : Script) (t : ObjNo) (ops : List Op) (old : State) (before : Ready) (was : List Effect) (first : List Move) (left : List Op) (S : State) (r : Ready) (effects : List Effect) (made : List Move) : Type 0 where
+pub record OpsRun (script : Script) (t : ObjNo) (ops : List Op) (old : State) (before : Ready) (was : List Effect)
+    (first : List Move) (left : List Op) (S : State) (r : Ready) (effects : List Effect)
+    (made : List Move) : Type 0 where
   pub way : OnTheWay script t (ops_moves script t old ops) old before was (ops_moves script t S left) S r effects
   pub noted : made ++ ops_moves script t S left ≡ first ++ ops_moves script t old ops
   pub few : length made + 2 * length left ≤ length first + 2 * length ops
 
 -- before the first
-pub ops_begin : (script : Script) (t : ObjNo) (ops : List Op) (S : State) (r : Ready) (was : List Effect) (first : List Move) → OpsRun script t ops S r was first ops S r was first
+pub ops_begin : (script : Script) (t : ObjNo) (ops : List Op) (S : State) (r : Ready) (was : List Effect)
+    (first : List Move)
+    → OpsRun script t ops S r was first ops S r was first
 ops_begin script t ops S r was first = record { way = way_begins script t (ops_moves script t S ops) S r was; noted = refl; few = omega arith }
 
 -- one more is done
-pub ops_go_on : (script : Script) (t : ObjNo) (ops : List Op) (old : State) (before : Ready) (was : List Effect) (first : List Move) (o : Op) (left : List Op) (S new : State) (r after : Ready) (effects more : List Effect) (made : List Move) → let ns = op_moves script S o in
-    OpsRun script t ops old before was first (o ∷ left) S r effects made → IsPerformed script t ns S new r after effects more → length ns ≤ 2 → OpsRun script t ops old before was first left new after more (made ++ ns)
+pub ops_go_on : (script : Script) (t : ObjNo) (ops : List Op) (old : State) (before : Ready) (was : List Effect)
+    (first : List Move) (o : Op) (left : List Op) (S new : State) (r after : Ready) (effects more : List Effect)
+    (made : List Move) → let ns = op_moves script S o in
+    OpsRun script t ops old before was first (o ∷ left) S r effects made
+    → IsPerformed script t ns S new r after effects more → length ns ≤ 2
+    → OpsRun script t ops old before was first left new after more (made ++ ns)
 ops_go_on script t ops old before was first o left S new r after effects more made h done short =
     let ns = op_moves script S o in
     let rest = ops_moves script t (perform t ns S) left in
     let e : new ≡ perform t ns S = calm_state script t ns S new r after effects more (op_calm script S o) done in
     let whole = ops_moves script t old ops in
     record {
-      way = subst (λ (U : State). OnTheWay script t whole old before was (ops_moves script t U left) new after more) (sym e) (part_goes_on script t whole old before was ns rest S r effects (ops_calm script t old ops) h.way new after more done);
+      way =
+          subst (λ (U : State). OnTheWay script t whole old before was (ops_moves script t U left) new after more) (sym e)
+          (part_goes_on script t whole old before was ns rest S r effects
+          (ops_calm script t old ops) h.way new after more done);
       noted = ap (λ (U : State). (made ++ ns) ++ ops_moves script t U left) e ∙ (append_assoc made ns rest ∙ h.noted);
       few = let long = length-append made ns in let few = h.few in omega arith;
     }
 
 -- after the last
-pub ops_end : (script : Script) (t : ObjNo) (ops : List Op) (old S : State) (before r : Ready) (was effects : List Effect) (first made : List Move) → OpsRun script t ops old before was first [] S r effects made → IsPerformed script t (ops_moves script t old ops) old S before r was effects × (made ≡ first ++ ops_moves script t old ops)
-ops_end script t ops old S before r was effects first made h = (way_ends script t (ops_moves script t old ops) old S before r was effects h.way, sym (append-nil made) ∙ h.noted)
+pub ops_end : (script : Script) (t : ObjNo) (ops : List Op) (old S : State) (before r : Ready)
+    (was effects : List Effect) (first made : List Move)
+    → OpsRun script t ops old before was first [] S r effects made
+    → IsPerformed script t (ops_moves script t old ops) old S before r was effects
+    × (made ≡ first ++ ops_moves script t old ops)
+ops_end script t ops old S before r was effects first made h =
+    (way_ends script t (ops_moves script t old ops) old S before r was effects h.way, sym (append-nil made) ∙ h.noted)
 
 -- operations behind other moves of which none gives a reference up go through, and there is room for what they tell
-pub ops_go : (script : Script) (t : ObjNo) (ms : List Move) (ops : List Op) (old mid : State) → total closing_bit ms ≡ 0 → mid ≡ perform t ms old → ((keep : Bool) → MovesGo script t (ms ++ ops_moves script t (perform t ms old) ops) (keeping keep old)) → (keep : Bool) → MovesGo script t (ops_moves script t mid ops) (keeping keep mid)
+pub ops_go : (script : Script) (t : ObjNo) (ms : List Move) (ops : List Op) (old mid : State) → total closing_bit ms ≡ 0
+    → mid ≡ perform t ms old
+    → ((keep : Bool) → MovesGo script t (ms ++ ops_moves script t (perform t ms old) ops) (keeping keep old))
+    → (keep : Bool) → MovesGo script t (ops_moves script t mid ops) (keeping keep mid)
 ops_go script t ms ops old mid none left go keep =
     let T = perform t ms old in
     let blind = blind-all script t ms old (sym (closes_all ms) ∙ none) in
     let later = (moves_part script t ms (ops_moves script t T ops) (keeping keep old) (go keep)).1 in
-    subst (λ (U : State). MovesGo script t (ops_moves script t U ops) (keeping keep U)) (sym left) (subst (MovesGo script t (ops_moves script t T ops)) (blind.moves keep) later)
+    subst (λ (U : State). MovesGo script t (ops_moves script t U ops) (keeping keep U)) (sym left)
+    (subst (MovesGo script t (ops_moves script t T ops)) (blind.moves keep) later)
 
-pub ops_few : (script : Script) (t : ObjNo) (ms : List Move) (ops : List Op) (old mid : State) (effects : List Effect) → total closing_bit ms ≡ 0 → mid ≡ perform t ms old → effects ≡ tell t ms (keeping mid.mode.keep old) → ((keep : Bool) → length (tell t (ms ++ ops_moves script t (perform t ms old) ops) (keeping keep old)) ≤ 4) → (keep : Bool) → length effects + length (tell t (ops_moves script t mid ops) (keeping keep mid)) ≤ 4
+pub ops_few : (script : Script) (t : ObjNo) (ms : List Move) (ops : List Op) (old mid : State) (effects : List Effect)
+    → total closing_bit ms ≡ 0 → mid ≡ perform t ms old → effects ≡ tell t ms (keeping mid.mode.keep old)
+    → ((keep : Bool) → length (tell t (ms ++ ops_moves script t (perform t ms old) ops) (keeping keep old)) ≤ 4)
+    → (keep : Bool) → length effects + length (tell t (ops_moves script t mid ops) (keeping keep mid)) ≤ 4
 ops_few script t ms ops old mid effects none left told few keep =
     let X = keeping keep old in
     let ns = ops_moves script t (perform t ms old) ops in
@@ -150,14 +184,20 @@ ops_few script t ms ops old mid effects none left told few keep =
     let all : length (tell t (ms ++ ns) X) ≡ length (tell t ms X ++ tell t ns (perform t ms X)) = ap length (tell_append t ms ns X) in
     let long = length-append (tell t ms X) (tell t ns (perform t ms X)) in
     let so_far : length effects ≡ length (tell t ms X) = ap length (told ∙ (blind.tells mid.mode.keep ∙ sym (blind.tells keep))) in
-    let here : length (tell t (ops_moves script t mid ops) (keeping keep mid)) ≡ length (tell t ns (perform t ms X)) = ap (λ (U : State). length (tell t (ops_moves script t U ops) (keeping keep U))) left ∙ ap (λ (U : State). length (tell t ns U)) (sym (blind.moves keep)) in
+    let here : length (tell t (ops_moves script t mid ops) (keeping keep mid)) ≡ length (tell t ns (perform t ms X)) =
+    ap (λ (U : State). length (tell t (ops_moves script t U ops) (keeping keep U))) left
+    ∙ ap (λ (U : State). length (tell t ns U)) (sym (blind.moves keep)) in
     omega arith
 
 -- what comes before the operations, and then these
-pub body_performed : (script : Script) (t : ObjNo) (ms : List Move) (ops : List Op) (old mid new : State) (before between after : Ready) (was es is : List Effect) → total closing_bit ms ≡ 0 → IsPerformed script t ms old mid before between was es → IsPerformed script t (ops_moves script t mid ops) mid new between after es is
+pub body_performed : (script : Script) (t : ObjNo) (ms : List Move) (ops : List Op) (old mid new : State)
+    (before between after : Ready) (was es is : List Effect)
+    → total closing_bit ms ≡ 0 → IsPerformed script t ms old mid before between was es
+    → IsPerformed script t (ops_moves script t mid ops) mid new between after es is
     → IsPerformed script t (ms ++ ops_moves script t (perform t ms old) ops) old new before after was is
 body_performed script t ms ops old mid new before between after was es is none first second =
     let left = calm_state script t ms old mid before between was es none first in
     let ns = ops_moves script t mid ops in
     let once : total closing_bit (ms ++ ns) ≤ 1 = let sum = closes_append ms ns in let calm = ops_calm script t mid ops in omega arith in
-    subst (λ (U : State). IsPerformed script t (ms ++ ops_moves script t U ops) old new before after was is) left (performed_then script t ms ns old mid new before between after was es is once first second)
+    subst (λ (U : State). IsPerformed script t (ms ++ ops_moves script t U ops) old new before after was is) left
+    (performed_then script t ms ns old mid new before between after was es is once first second)

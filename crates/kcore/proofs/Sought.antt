@@ -59,7 +59,9 @@ note-of (x ∷ xs) p has = elim (cases_Bool (x.place == p)) as (λ _. NoteOf (x 
     ]
 
 -- the supervisor is never out: it has no instructions
-first-role : (script : Script) (first : ThreadRow) → get_or (boot script).references.threads supervisor.0 None ≡ Some first → length (instructions_of script first.role) ≡ 0
+first-role : (script : Script) (first : ThreadRow)
+    → get_or (boot script).references.threads supervisor.0 None ≡ Some first
+    → length (instructions_of script first.role) ≡ 0
 unfolding boot_of
 first-role script first is = let role : first.role ≡ Role.Supervisor = cc in ap (λ (r : Role). length (instructions_of script r)) role
 
@@ -87,7 +89,8 @@ module _ (script : Script) (history : List Entry) (valid : IsWellFormed script) 
           let inside = (rows.references.threads.rows supervisor.0 row is).returns returns in
           let p = (book-after true script history [] valid (subst (IsShared script) (sym (append-none history)) legal)).0.served.places supervisor.0 row is in
           let none = first-role script p.first p.is in
-          let same_role : length (instructions_of script p.first.role) ≡ length (instructions_of script row.role) = ap (λ (r : Role). length (instructions_of script r)) p.role in
+          let same_role : length (instructions_of script p.first.role) ≡ length (instructions_of script row.role) =
+          ap (λ (r : Role). length (instructions_of script r)) p.role in
           absurd (omega arith)
       by row is false returns = refl
 
@@ -112,11 +115,18 @@ module _ (script : Script) (history : List Entry) (valid : IsWellFormed script) 
       let place : record { 0 = found.slip.place } ≡ o = same_object (record { 0 = found.slip.place }) o found.place in
       let out : 0 < seeks o (thread_of S n.thread) = subst (λ (x : ObjNo). 0 < seeks x (thread_of S n.thread)) place n.away in
       let row = out-on S n.thread o out in
-      let other = apart S n.thread o actor (shared-after script (boot_in true script) history) stays out in
-      (record { shared = shared-after script (boot_in true script) history; finder = n.thread; back = record { row = row.row; is = row.is; returns = row.returns; found = row.found } }, not-acting actor n.thread o other out)
+      let other = apart S n.thread o actor (shared-after script (boot_in true script) history) stays out in (
+        record {
+          shared = shared-after script (boot_in true script) history;
+          finder = n.thread;
+          back = record { row = row.row; is = row.is; returns = row.returns; found = row.found };
+        },
+        not-acting actor n.thread o other out,
+      )
 
   -- and beside a thread that comes back with its note, which is out no longer
-  pub sought-back : (notes : Notes) (s : Slip) (t : ObjNo) → AreNotes history S notes → IsNoteOut notes s → finder s.number history ≡ Some t → AreSoughtBeside t (notes_back s notes) S
+  pub sought-back : (notes : Notes) (s : Slip) (t : ObjNo) → AreNotes history S notes → IsNoteOut notes s
+      → finder s.number history ≡ Some t → AreSoughtBeside t (notes_back s notes) S
   sought-back notes s t h out its o has =
       let found = note-of (without s notes.out) o.0 has in
       let there : IsNoteOut notes found.slip = out-before_take Held (words_like notes) found.slip s found.out_is in
@@ -124,11 +134,17 @@ module _ (script : Script) (history : List Entry) (valid : IsWellFormed script) 
       let place : record { 0 = found.slip.place } ≡ o = same_object (record { 0 = found.slip.place }) o found.place in
       let away_there : 0 < seeks o (thread_of S n.thread) = subst (λ (x : ObjNo). 0 < seeks x (thread_of S n.thread)) place n.away in
       let row = out-on S n.thread o away_there in (
-        record { shared = shared-after script (boot_in true script) history; finder = n.thread; back = record { row = row.row; is = row.is; returns = row.returns; found = row.found } },
+        record {
+          shared = shared-after script (boot_in true script) history;
+          finder = n.thread;
+          back = record { row = row.row; is = row.is; returns = row.returns; found = row.found };
+        },
         λ same_number.
             let same_thread : n.thread ≡ t = same_object n.thread t same_number in
             let same_note : found.slip ≡ s = h.once found.slip s there out (n.its ∙ (ap Some same_thread ∙ sym its)) in
-            not_out-after_take Held (words_like notes) s (subst (λ (x : Slip). IsTrue (list_any (λ other. same_slip other x) (without s notes.out))) same_note found.out_is),
+            not_out-after_take Held (words_like notes) s
+            (subst (λ (x : Slip). IsTrue (list_any (λ other. same_slip other x) (without s notes.out))) same_note
+            found.out_is),
       )
 
   -- fewer than 65 are out

@@ -81,17 +81,7 @@ fn tick<W: RefWords + Drop>(core: &mut Core<W>, entry: &mut Entry)
     entry.answer = None;
 }
 
-/// Nobody acts.
-fn idle(entry: &mut Entry)
-    requires empty { entry.old.effects ≡ [] }
-    ensures told { IsTold entry.old entry.new }
-    ensures outcome { told_in entry.new ≡ record { step = Step.Wait; effects = []; answer = None } }
-{
-    entry.step = Step::Wait;
-    entry.answer = None;
-}
-
-/// An action of an actor that isn't out, told by an entry that has no effects yet.
+/// An action of an actor that isn't out, told by an entry that tells as yet that nobody acted.
 pub fn transition<W: RefWords + Drop>(
     script: &Script,
     core: &mut Core<W>,
@@ -103,6 +93,7 @@ pub fn transition<W: RefWords + Drop>(
     requires can { CanAct script.now core.old.state actor }
     requires stays { is_out_actor core.old.state actor ≡ false }
     requires empty { entry.old.effects ≡ [] }
+    requires blank { told_in entry.old ≡ record { step = Step.Wait; effects = []; answer = None } }
     ensures told { IsTold entry.old entry.new }
     ensures does { Acts script.now core.old core.new (told_in entry.new) actor }
     ensures notes { core.new.notes ≡ core.old.notes }
@@ -112,6 +103,6 @@ pub fn transition<W: RefWords + Drop>(
         Actor::Tick => tick(core, entry),
         Actor::Irq(number) => interrupt(script, core, number, entry),
         Actor::Idfc => immediate(script, core, entry),
-        Actor::Idle => idle(entry),
+        Actor::Idle => {}
     }
 }

@@ -1,84 +1,40 @@
 //! The tables and the queues of ready threads at boot.
-ghost use Rattle.std.specs.Prelude.{if◌then◌else◌, ◌≡◌, ℕ, ◌<◌, ◌≤◌, ◌++◌, [], ◌∷◌, Some, None, true, false, length, map, replicate, IfOk, slice_index, slice_set};
+ghost use Rattle.std.specs.Prelude.{if◌then◌else◌, ◌≡◌, ◌<◌, ◌≤◌, true, length, map, replicate, IfOk, slice_set};
 ghost use Rattle.sym_base.specs.declared.limits.TheConstants.Limits.{BOOT_OBJECTS, DEVICES, OBJECTS, HANDLES};
 ghost use Rattle.sym_base.specs.declared.number.ObjNo.{ObjNo};
 ghost use Rattle.script_types.specs.Source.{IsWellFormed};
 ghost use Rattle.script_types.specs.Shape.{IsShaped};
 ghost use Rattle.state_rows.specs.DeclaredCalls.{calls_of};
 ghost use Rattle.ref_words.specs.Words.{NoneCreated};
-ghost use Rattle.state_rows.specs.ObjectRows.{is_session, is_taken};
 ghost use Rattle.machine.specs.Arrivals.{is_listed};
-ghost use Rattle.machine.specs.Boot.{boot, nano_of, ready_at_boot};
+ghost use Rattle.machine.specs.Boot.{boot, born, nano_of, ready_at_boot};
 ghost use Rattle.machine.specs.Choice.{priority_of};
 ghost use Rattle.state_rows.specs.HandleSlots.{fresh_slot};
-ghost use Rattle.machine.specs.References.{count_of};
 ghost use Rattle.machine.specs.WellFormed.{AreApart};
 ghost use Rattle.state_rows.specs.Nano.{suspend_count};
 ghost use Rattle.state_rows.specs.RequestChanges.{new_rows as request_rows};
 ghost use Rattle.cleanup.specs.Lists.{empty_lists};
 ghost use Rattle.table_moves.specs.Notes.{no_notes};
-ghost use Rattle.kcore.specs.BootTable.{AreEmpty, AreNew, AreTables, AreThreadTables, FirstStand};
+ghost use Rattle.kcore.specs.BootTable.{AreEmpty, AreTables, AreThreadTables, born_priority, born_rows};
 ghost use Rattle.kernel_tables.specs.Noted.{AreKept};
 ghost use Rattle.kernel_tables.specs.ReadyQueues.{AreReady};
 ghost use Rattle.kernel_tables.specs.StateOf.{slots_of, state_of};
 
-use crate::boot_tables::{locks_of, priority_of, procs_of, server_tables};
+use crate::boot_objects::counted;
+use crate::boot_tables::{locks_of, priority_at, procs_of, server_tables};
 use cleanup::Cleanup;
 use handles::Handles;
 use kern_sync::KernSync;
 use kernel_tables::{CallQueues, Core, ObjectTable, Tables};
-use machine::{Born, Mode, State, all_born, count_of, ready_at_boot, state_at_boot};
+use machine::{Born, Mode, all_born, ready_at_boot};
 use nano_sync::NanoSync;
 use procs::Procs;
 use ready_list::ReadyList;
 use ref_words::RefWords;
 use requests::Requests;
 use script_types::Script;
-use state_rows::ObjectRow;
 use std::alloc::Global;
 use sym_base::{Items, Kind, Limits, NoMemory, ObjNo, ThreadNo};
-
-/// An object with so many references, at least one.
-fn make_counted<W: RefWords + Drop>(objects: &mut ObjectTable<W>, row: &ObjectRow, count: u32)
-    requires named { is_session row.now.kind ≡ false }
-    requires alive { row.now.dead ≡ false }
-    requires fresh { is_taken row.now.kind row.now.name objects.old.rows ≡ false }
-    requires room { length objects.old.rows < OBJECTS }
-    requires some { 0 < count }
-    requires small { count < 65536 }
-    ensures rows { objects.new.rows ≡ objects.old.rows ++ Some row.now ∷ [] }
-    ensures counts { objects.new.counts ≡ slice_set objects.old.counts (length objects.old.rows) count }
-    ensures last { slice_index objects.new.counts (length objects.old.rows) ≡ count }
-    ensures notes { objects.new.notes ≡ objects.old.notes }
-{
-    let object = objects.make(row.kind, &row.name);
-    for _held in 1..count {
-        objects.add_ref(object);
-    }
-}
-
-/// The objects at boot, each with the number of its references.
-fn counted<W: RefWords + Drop>(
-    alloc: Global,
-    words: W,
-    all: &[Born],
-    state: &State,
-) -> Result<ObjectTable<W>, NoMemory>
-    requires places { length (W.meaning words).own ≡ OBJECTS }
-    requires fresh { NoneCreated (W.meaning words) }
-    requires few { length all.now ≤ OBJECTS }
-    requires small { (o : ObjNo) → count_of state.now o < 65536 }
-    requires born { AreNew all.now state.now }
-    ensures stand { IfOk result (λ objects. FirstStand all.now state.now objects.rows objects.counts (length all.now)) }
-    ensures notes { IfOk result (λ objects. objects.notes ≡ no_notes (W.meaning words).identity) }
-{
-    let mut objects = ObjectTable::new(alloc, words)?;
-    for (number, born) in all.iter().enumerate() {
-        let count = count_of(state, ObjNo(number as u16));
-        make_counted(&mut objects, &born.object, count);
-    }
-    Ok(objects)
-}
 
 /// An empty handle table for each.
 fn fresh_handles(alloc: Global, all: &[Born]) -> Result<Items<Handles>, NoMemory>
@@ -122,28 +78,28 @@ fn requests_of(alloc: Global, all: &[Born]) -> Result<Requests, NoMemory>
     Requests::new(alloc, all.len() as u16, Limits::DEVICES as u8)
 }
 
-/// The queues of ready threads, by their priorities in a state.
-fn queues_of(alloc: Global, state: &State, threads: &[ThreadNo]) -> Result<ReadyList, NoMemory>
+/// The queues of ready threads, by their priorities at boot.
+fn queues_of(alloc: Global, all: &[Born], threads: &[ThreadNo]) -> Result<ReadyList, NoMemory>
     requires once { AreApart threads.now }
     requires known { (t : ObjNo) → is_listed threads.now t ≡ true → t.0 < BOOT_OBJECTS }
-    requires ranged { (t : ObjNo) → is_listed threads.now t ≡ true → priority_of state.now t < 64 }
-    ensures { IfOk result (λ list. AreReady (priority_of state.now) threads.now list) }
+    requires ranged { (t : ObjNo) → is_listed threads.now t ≡ true → born_priority all.now t < 64 }
+    ensures { IfOk result (λ list. AreReady (born_priority all.now) threads.now list) }
 {
     let mut list = ReadyList::new(alloc, Limits::BOOT_OBJECTS as u16)?;
     for thread in threads {
-        list.add(*thread, priority_of(state, *thread));
+        list.add(*thread, priority_at(all, *thread));
     }
     Ok(list)
 }
 
 /// The queues of the threads that are ready at boot.
-fn queues_at_boot(alloc: Global, script: &Script, state: &State) -> Result<ReadyList, NoMemory>
+fn queues_at_boot(alloc: Global, script: &Script, all: &[Born]) -> Result<ReadyList, NoMemory>
     requires valid { IsWellFormed script.now }
-    requires boot { state.now ≡ boot script.now }
-    ensures { IfOk result (λ list. AreReady (priority_of (boot script.now)) (ready_at_boot script.now) list) }
+    requires born { all.now ≡ born script.now }
+    ensures { IfOk result (λ list. AreReady (born_priority all.now) (ready_at_boot script.now) list) }
 {
     let threads = ready_at_boot(alloc, script)?;
-    queues_of(alloc, state, threads.as_slice())
+    queues_of(alloc, all, threads.as_slice())
 }
 
 /// The handle tables, which are empty, and the lists of what each owes and has, which have nothing.
@@ -158,12 +114,12 @@ fn empty_tables(alloc: Global, all: &[Born]) -> Result<(Items<Handles>, Cleanup)
 }
 
 /// The threads' rows with the processes' memories, and the locks, which nobody owns or waits for.
-fn thread_tables(alloc: Global, state: &State) -> Result<(Procs, KernSync), NoMemory>
-    requires { length state.now.references.threads ≤ BOOT_OBJECTS }
-    ensures { IfOk result (λ made. AreThreadTables state.now.references.threads made.0 made.1) }
+fn thread_tables(alloc: Global, all: &[Born]) -> Result<(Procs, KernSync), NoMemory>
+    requires { length all.now ≤ BOOT_OBJECTS }
+    ensures { IfOk result (λ made. AreThreadTables (born_rows all.now) made.0 made.1) }
 {
-    let procs = procs_of(alloc, state.references.threads.as_slice())?;
-    let locks = locks_of(alloc, state)?;
+    let procs = procs_of(alloc, all)?;
+    let locks = locks_of(alloc, all)?;
     Ok((procs, locks))
 }
 
@@ -228,14 +184,12 @@ fn tables_of<W: RefWords + Drop>(
     script: &Script,
     all: &[Born],
     objects: ObjectTable<W>,
-    state: &State,
 ) -> Result<Tables<W>, NoMemory>
     requires shaped { IsShaped script.now }
-    requires few { length all.now < 65536 }
-    requires known { length state.now.references.threads ≤ BOOT_OBJECTS }
-    ensures { IfOk result (λ tables. AreTables script.now all.now state.now objects tables) }
+    requires few { length all.now ≤ BOOT_OBJECTS }
+    ensures { IfOk result (λ tables. AreTables script.now all.now objects tables) }
 {
-    let threads = thread_tables(alloc, state)?;
+    let threads = thread_tables(alloc, all)?;
     let tables = tables_over(alloc, script, all, objects, threads.0, threads.1)?;
     Ok(tables)
 }
@@ -245,19 +199,18 @@ fn tables_at_boot<W: RefWords + Drop>(
     alloc: Global,
     script: &Script,
     words: W,
-    state: &State,
+    all: &[Born],
 ) -> Result<Tables<W>, NoMemory>
     requires valid { IsWellFormed script.now }
     requires places { length (W.meaning words).own ≡ OBJECTS }
     requires fresh { NoneCreated (W.meaning words) }
-    requires boot { state.now ≡ boot script.now }
+    requires born { all.now ≡ born script.now }
     ensures state { IfOk result (λ tables. state_of tables ≡ boot script.now) }
     ensures kept { IfOk result (λ tables. AreKept tables) }
     ensures notes { IfOk result (λ tables. tables.objects.notes ≡ no_notes (W.meaning words).identity) }
 {
-    let all = all_born(alloc, script)?;
-    let objects = counted(alloc, words, all.as_slice(), state)?;
-    let tables = tables_of(alloc, script, all.as_slice(), objects, state)?;
+    let objects = counted(alloc, words, all)?;
+    let tables = tables_of(alloc, script, all, objects)?;
     Ok(tables)
 }
 
@@ -274,8 +227,8 @@ pub fn boot<W: RefWords + Drop>(
     ensures queues { IfOk result (λ core. AreReady (priority_of (boot script.now)) (ready_at_boot script.now) core.ready) }
     ensures notes { IfOk result (λ core. core.notes ≡ no_notes (W.meaning words).identity) }
 {
-    let state = state_at_boot(alloc, script)?;
-    let ready = queues_at_boot(alloc, script, &state)?;
-    let tables = tables_at_boot(alloc, script, words, &state)?;
+    let all = all_born(alloc, script)?;
+    let ready = queues_at_boot(alloc, script, all.as_slice())?;
+    let tables = tables_at_boot(alloc, script, words, all.as_slice())?;
     Ok(Core::new(tables, ready))
 }

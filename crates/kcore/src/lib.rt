@@ -5,6 +5,7 @@ mod act;
 mod back;
 mod bodies;
 mod boot;
+mod boot_objects;
 mod boot_tables;
 mod deaths;
 mod final_rows;

@@ -39,5 +39,6 @@ found_seen S counts (Some n) agree =
 found_step : (b : Bool) (x y : Option ObjNo) → x ≡ y → (if b then None else x) ≡ (if b then None else y)
 found_step b x y e = ap (λ (z : Option ObjNo). if b then None else z) e
 
-pub found_is : (S : State) (counts : List ℕ) (kind : Kind) (name : List ℕ) → Agrees counts S → found kind name S.references.objects counts ≡ find_object S kind name
+pub found_is : (S : State) (counts : List ℕ) (kind : Kind) (name : List ℕ) → Agrees counts S
+    → found kind name S.references.objects counts ≡ find_object S kind name
 found_is S counts kind name agree = found_step (is_session kind) _ _ (found_seen S counts (position (has_name kind name) S.references.objects) agree)

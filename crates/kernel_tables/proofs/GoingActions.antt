@@ -45,21 +45,32 @@ ComesAlone S ms = (S.mode.shared ≡ false) ⊎ (total opening_bit ms ≡ 0)
 abbrev GoesIn : Script → ObjNo → List Move → State → Type 0
 GoesIn script t ms S = MovesGo script t ms S × (length (tell t ms S) ≤ 4)
 
-fitting_goes : (script : Script) (S : State) (t : ObjNo) (ms : List Move) → IsShaped script → Sane script t S → ComesAlone S ms → Goes script t S ms → GoesIn script t ms S
+fitting_goes : (script : Script) (S : State) (t : ObjNo) (ms : List Move) → IsShaped script → Sane script t S
+    → ComesAlone S ms → Goes script t S ms → GoesIn script t ms S
 fitting_goes script S t ms shaped s alone goes = (each_goes script S t ms shaped goes.each goes.few s alone, goes.told)
 
-action_in : (script : Script) (S : State) (t : ObjNo) → IsShaped script → AreRows script S → ComesAlone S (decision_of script S t).moves → GoesIn script t (decision_of script S t).moves S
-action_in script S t shaped rows = of_action script S t (λ (ms : List Move). ComesAlone S ms → GoesIn script t ms S) shaped rows (λ ms s goes alone. fitting_goes script S t ms shaped s alone goes)
+action_in : (script : Script) (S : State) (t : ObjNo) → IsShaped script → AreRows script S
+    → ComesAlone S (decision_of script S t).moves → GoesIn script t (decision_of script S t).moves S
+action_in script S t shaped rows =
+    of_action script S t (λ (ms : List Move). ComesAlone S ms → GoesIn script t ms S) shaped rows
+    (λ ms s goes alone. fitting_goes script S t ms shaped s alone goes)
     (λ what rest s owes alone. ((pay_goes script S t what rest owes s, tt), (let few = tell_few t (Pay what ∷ []) S in omega arith)))
     (λ alone. (tt, omega arith))
 
 -- decided in each of two states alike, and going through in both
-both_go : (script : Script) (t : ObjNo) (S : State) (decide : State → Decision) → ((keep : Bool) → decide (keeping keep S) ≡ decide S) → ((keep : Bool) → ComesAlone S (decide (keeping keep S)).moves → GoesIn script t (decide (keeping keep S)).moves (keeping keep S)) → ComesAlone S (decide S).moves → (keep : Bool) → GoesIn script t (decide S).moves (keeping keep S)
+both_go : (script : Script) (t : ObjNo) (S : State) (decide : State → Decision)
+    → ((keep : Bool) → decide (keeping keep S) ≡ decide S)
+    → ((keep : Bool) → ComesAlone S (decide (keeping keep S)).moves
+    → GoesIn script t (decide (keeping keep S)).moves (keeping keep S))
+    → ComesAlone S (decide S).moves → (keep : Bool) → GoesIn script t (decide S).moves (keeping keep S)
 both_go script t S decide same goes alone keep =
-    subst (λ (d : Decision). GoesIn script t d.moves (keeping keep S)) (same keep) (goes keep (subst (λ (d : Decision). ComesAlone S d.moves) (sym (same keep)) alone))
+    subst (λ (d : Decision). GoesIn script t d.moves (keeping keep S)) (same keep)
+    (goes keep (subst (λ (d : Decision). ComesAlone S d.moves) (sym (same keep)) alone))
 
 -- moves that fit with either choice
-pub each_choice_goes : (script : Script) (S : State) (t : ObjNo) (ms : List Move) → IsShaped script → ((keep : Bool) → Sane script t (keeping keep S)) → ComesAlone S ms → ((keep : Bool) → Goes script t (keeping keep S) ms) → total closing_bit ms ≤ 1 → ActionGoes script t ms S
+pub each_choice_goes : (script : Script) (S : State) (t : ObjNo) (ms : List Move) → IsShaped script
+    → ((keep : Bool) → Sane script t (keeping keep S)) → ComesAlone S ms
+    → ((keep : Bool) → Goes script t (keeping keep S) ms) → total closing_bit ms ≤ 1 → ActionGoes script t ms S
 each_choice_goes script S t ms shaped sane alone goes once = record {
   each = λ keep. (fitting_goes script (keeping keep S) t ms shaped (sane keep) alone (goes keep)).0;
   few = λ keep. (fitting_goes script (keeping keep S) t ms shaped (sane keep) alone (goes keep)).1;
@@ -67,9 +78,12 @@ each_choice_goes script S t ms shaped sane alone goes once = record {
 }
 
 -- those of each action of a thread, but for a return where callers share the kernel
-pub action_goes : (script : Script) (S : State) (t : ObjNo) → IsShaped script → AreRows script S → ComesAlone S (decision_of script S t).moves → ActionGoes script t (decision_of script S t).moves S
+pub action_goes : (script : Script) (S : State) (t : ObjNo) → IsShaped script → AreRows script S
+    → ComesAlone S (decision_of script S t).moves → ActionGoes script t (decision_of script S t).moves S
 action_goes script S t shaped rows alone =
-    let goes = both_go script t S (λ (T : State). decision_of script T t) (λ keep. decision-same script S t keep shaped rows) (λ keep. action_in script (keeping keep S) t shaped (rows-keeping script S keep rows)) alone in
+    let goes = both_go script t S (λ (T : State). decision_of script T t)
+    (λ keep. decision-same script S t keep shaped rows)
+    (λ keep. action_in script (keeping keep S) t shaped (rows-keeping script S keep rows)) alone in
     record {
       each = λ keep. (goes keep).0;
       few = λ keep. (goes keep).1;
@@ -78,24 +92,37 @@ action_goes script S t shaped rows alone =
 
 -- what they leave is in order, a return's too
 pub action_runs : (script : Script) (S : State) (t : ObjNo) → IsShaped script → AreRows script S → MovesRun script t (decision_of script S t).moves S
-action_runs script S t shaped rows = of_action script S t (λ (ms : List Move). MovesRun script t ms S) shaped rows (λ ms s goes. each_runs script S t ms goes.each goes.few s) (λ what rest s owes. ((pay_goes script S t what rest owes s).runs, tt)) tt
+action_runs script S t shaped rows =
+    of_action script S t (λ (ms : List Move). MovesRun script t ms S) shaped rows
+    (λ ms s goes. each_runs script S t ms goes.each goes.few s)
+    (λ what rest s owes. ((pay_goes script S t what rest owes s).runs, tt)) tt
 
 -- who is able makes no return there
-pub able_goes : (script : Script) (S : State) (t : ObjNo) → IsShaped script → AreRows script S → is_able script S t ≡ true → ActionGoes script t (decision_of script S t).moves S
-able_goes script S t shaped rows able = action_goes script S t shaped rows (elim (cases_Bool S.mode.shared) as (λ _. ComesAlone S (decision_of script S t).moves) [
-  | inl shared ↦
-      let back = able-back script S t shared able in
-      let stays = unless-returner script S (Thread t) shaped rows (λ returns. let clash : true ≡ false = sym returns ∙ back in absurd (cc)) in
-      inr (opens_none (decision_of script S t).moves (comes-next script S (Thread t) shaped rows ∙ if_not (is_return (transition script S (Thread t)).outcome.step) 1 stays))
-  | inr alone ↦ inl alone
-])
+pub able_goes : (script : Script) (S : State) (t : ObjNo) → IsShaped script → AreRows script S
+    → is_able script S t ≡ true → ActionGoes script t (decision_of script S t).moves S
+able_goes script S t shaped rows able =
+    action_goes script S t shaped rows (elim (cases_Bool S.mode.shared) as
+    (λ _. ComesAlone S (decision_of script S t).moves) [
+      | inl shared ↦
+          let back = able-back script S t shared able in
+          let stays = unless-returner script S (Thread t) shaped rows (λ returns. let clash : true ≡ false = sym returns ∙ back in absurd (cc)) in
+          inr (opens_none (decision_of script S t).moves
+          (comes-next script S (Thread t) shaped rows
+          ∙ if_not (is_return (transition script S (Thread t)).outcome.step) 1 stays))
+      | inr alone ↦ inl alone
+    ])
 
 -- of the body of an interrupt
-pub interrupt_goes : (script : Script) (S : State) (k : ℕ) → IsShaped script → AreRows script S → ActionGoes script supervisor (decision_by script supervisor S (Runs (Interrupt k))).moves S
+pub interrupt_goes : (script : Script) (S : State) (k : ℕ) → IsShaped script → AreRows script S
+    → ActionGoes script supervisor (decision_by script supervisor S (Runs (Interrupt k))).moves S
 interrupt_goes script S k shaped rows =
     let decide : State → Decision = λ T. decision_by script supervisor T (Runs (Interrupt k)) in
     let keeps = keeps-interrupt script S k shaped rows in
-    let goes = both_go script supervisor S decide (λ keep. body-same script supervisor S keep (Interrupt k) (sane-supervisor script S rows)) (λ keep alone. let here = rows-keeping script S keep rows in fitting_goes script (keeping keep S) supervisor _ shaped (sane-supervisor script (keeping keep S) here) alone (goes-interrupt script (keeping keep S) k shaped here)) (inr (opens_none (decide S).moves keeps.stays)) in
+    let goes = both_go script supervisor S decide
+    (λ keep. body-same script supervisor S keep (Interrupt k) (sane-supervisor script S rows))
+    (λ keep alone. let here = rows-keeping script S keep rows in
+    fitting_goes script (keeping keep S) supervisor _ shaped (sane-supervisor script (keeping keep S) here) alone
+    (goes-interrupt script (keeping keep S) k shaped here)) (inr (opens_none (decide S).moves keeps.stays)) in
     record {
       each = λ keep. (goes keep).0;
       few = λ keep. (goes keep).1;
@@ -103,12 +130,17 @@ interrupt_goes script S k shaped rows =
     }
 
 -- and of the oldest item of the immediate queue
-pub immediate_goes : (script : Script) (S : State) → IsShaped script → AreRows script S → ActionGoes script supervisor (decision_by script supervisor S (immediate_plan script S (next_immediate S.synchronization.deferred))).moves S
+pub immediate_goes : (script : Script) (S : State) → IsShaped script → AreRows script S
+    → ActionGoes script supervisor (decision_by script supervisor S
+    (immediate_plan script S (next_immediate S.synchronization.deferred))).moves S
 immediate_goes script S shaped rows =
     let found = next_immediate S.synchronization.deferred in
     let decide : State → Decision = λ T. decision_by script supervisor T (immediate_plan script T found) in
     let keeps = keeps-immediate script S shaped rows in
-    let goes = both_go script supervisor S decide (λ keep. plan-same script S keep found rows) (λ keep alone. let here = rows-keeping script S keep rows in fitting_goes script (keeping keep S) supervisor _ shaped (sane-supervisor script (keeping keep S) here) alone (goes-immediate script (keeping keep S) found shaped here refl)) (inr (opens_none (decide S).moves keeps.stays)) in
+    let goes = both_go script supervisor S decide (λ keep. plan-same script S keep found rows)
+    (λ keep alone. let here = rows-keeping script S keep rows in
+    fitting_goes script (keeping keep S) supervisor _ shaped (sane-supervisor script (keeping keep S) here) alone
+    (goes-immediate script (keeping keep S) found shaped here refl)) (inr (opens_none (decide S).moves keeps.stays)) in
     record {
       each = λ keep. (goes keep).0;
       few = λ keep. (goes keep).1;

@@ -79,7 +79,10 @@ makes_least S Kernel free = tt
 
 -- what an owner gives up is a server, whose number is that of an object
 small_server : (script : Script) (S : State) (o : ObjNo) (server : ServerRow) → AreRows script S → server_at S.serving.servers o ≡ Some server → o.0 < 4096
-small_server script S o server rows is = let sized = rows.serving.servers.servers_sized in let low = inside S.serving.servers.servers o.0 server is in omega arith
+small_server script S o server rows is =
+    let sized = rows.serving.servers.servers_sized in
+    let low = inside S.serving.servers.servers o.0 server is in
+    omega arith
 
 pub may_lose : (script : Script) (S : State) (h : Holder) (o : ObjNo) → AreRows script S → Holds S h o → MayLose h o
 may_lose script S (Own t) o rows holds = let owns = rows.serving.servers.owners t o holds in small_server script S o owns.row rows owns.is

@@ -49,7 +49,8 @@ held_one : (o : ObjNo) (held : List ObjNo) → list_any (is_object o) held ≡ t
 held_one o [] some = absurd (cc)
 held_one o (x ∷ rest) some = by (x.0 == o.0) refl some (held_one o rest)
   where
-    by : (b : Bool) → (x.0 == o.0) ≡ b → (b || list_any (is_object o) rest) ≡ true → (list_any (is_object o) rest ≡ true → 0 < total (mutex_names o) rest) → 0 < total (mutex_names o) (x ∷ rest)
+    by : (b : Bool) → (x.0 == o.0) ≡ b → (b || list_any (is_object o) rest) ≡ true
+        → (list_any (is_object o) rest ≡ true → 0 < total (mutex_names o) rest) → 0 < total (mutex_names o) (x ∷ rest)
     by true at some later = let one : same x o ≡ 1 = ap (λ (b : Bool). if b then 1 else 0) at in omega arith
     by false at some later = let more = later some in omega arith
 
@@ -61,7 +62,8 @@ pub held_some : (o : ObjNo) (mutexes : List (List ObjNo)) → list_any (list_any
 held_some o [] some = absurd (cc)
 held_some o (held ∷ rest) some = by (list_any (is_object o) held) refl some (held_some o rest)
   where
-    by : (b : Bool) → list_any (is_object o) held ≡ b → (b || list_any (list_any (is_object o)) rest) ≡ true → (list_any (list_any (is_object o)) rest ≡ true → HeldBySome rest o) → HeldBySome (held ∷ rest) o
+    by : (b : Bool) → list_any (is_object o) held ≡ b → (b || list_any (list_any (is_object o)) rest) ≡ true
+        → (list_any (list_any (is_object o)) rest ≡ true → HeldBySome rest o) → HeldBySome (held ∷ rest) o
     by true here some later = record { thread = record { 0 = 0 }; held = held_one o held here }
     by false here some later = let more = later some in record { thread = record { 0 = suc more.thread.0 }; held = more.held }
 
@@ -90,7 +92,8 @@ passed_by : (owner : Option Owner) (t w : ObjNo) (best : Option ObjNo) → Passe
 passed_by None t w best e = absurd (cc)
 passed_by (Some v) t w best e = by (v.thread.0 == t.0) (nat_lt 1 v.level) refl e
   where
-    by : (b more : Bool) → (v.thread.0 == t.0) ≡ b → Passed w ≡ (if b then (if more then Level else passed best) else NotOwner) → IsOwn (Some v) t × (best ≡ Some w)
+    by : (b more : Bool) → (v.thread.0 == t.0) ≡ b → Passed w
+        ≡ (if b then (if more then Level else passed best) else NotOwner) → IsOwn (Some v) t × (best ≡ Some w)
     by true true at e = absurd (cc)
     by true false at e = (record { own = v; is = refl; thread = eqb-true v.thread.0 t.0 at }, passed_best best w e)
     by false more at e = absurd (cc)
@@ -99,7 +102,8 @@ is_owned : (owner : Option Owner) (w : Owner) → owner ≡ Some w → IsSome ow
 is_owned None w is = absurd (cc)
 is_owned (Some v) w is = refl
 
-module _ (script : Script) (S : State) (rows : AreRows script S) (known : AreKnown S) (referred : (o : ObjNo) → 0 < count_of S o → IsReferred S o) (places : (u : ObjNo) → HasPlaces 2 S u) where
+module _ (script : Script) (S : State) (rows : AreRows script S) (known : AreKnown S)
+    (referred : (o : ObjNo) → 0 < count_of S o → IsReferred S o) (places : (u : ObjNo) → HasPlaces 2 S u) where
   -- numbers are in range
   placed : (o : ObjNo) → o.0 < length S.references.objects → IsPlaced S o
   placed o made = let long = rows.synchronization.locks.owners_sized in let few = rows.references.sized.objects_few in omega arith
@@ -137,7 +141,9 @@ module _ (script : Script) (S : State) (rows : AreRows script S) (known : AreKno
       record {
         thread = owes_in u may.thread;
         object = small o made;
-        free = none_has o S.synchronization.mutexes (none_held (length S.references.objects) S.references.threads (parts S) rows.synchronization.locks rows.references.sized.objects_few o made free);
+        free =
+            none_has o S.synchronization.mutexes (none_held (length S.references.objects) S.references.threads
+            (parts S) rows.synchronization.locks rows.references.sized.objects_few o made free);
         referred = referred o may.counted;
       }
 
@@ -146,13 +152,19 @@ module _ (script : Script) (S : State) (rows : AreRows script S) (known : AreKno
   gives o u unlocked may = record { thread = owes_in u may.thread; object = small o may.object; places = let two = places u in omega arith }
 
   -- the waiter to whom a mutex is passed may take it
-  takes_passed : (o u w : ObjNo) → o.0 < length S.references.objects → is_some (thread_of S u) ≡ true → WaitsNowhere S u → IsOwn (owner_at S.synchronization.locks o) u → best_waiter (priority_of S) S.synchronization.locks o ≡ Some w → CanTake S (not_holding S.synchronization.mutexes u o) w o
+  takes_passed : (o u w : ObjNo) → o.0 < length S.references.objects → is_some (thread_of S u) ≡ true → WaitsNowhere S u
+      → IsOwn (owner_at S.synchronization.locks o) u → best_waiter (priority_of S) S.synchronization.locks o ≡ Some w
+      → CanTake S (not_holding S.synchronization.mutexes u o) w o
   takes_passed o u w object thread nowhere own best =
       let among : is_among w (waiters_at S.synchronization.locks o) ≡ true = greatest_listed (priority_of S) (waiters_at S.synchronization.locks o) w best in
       let awaits = rows.synchronization.locks.waiters w o among in
       let there = in_mutexes u thread in
-      let once = held_once (length S.references.objects) S.references.threads (parts S) rows.synchronization.locks rows.references.sized.objects_few o object u own.own own.is own.thread there (nowhere o) in
-      let none = given_none (length S.references.objects) S.references.threads (parts S) rows.synchronization.locks rows.references.sized.objects_few o object u own.own own.is own.thread there (nowhere o) in
+      let once = held_once (length S.references.objects) S.references.threads
+      (parts S) rows.synchronization.locks rows.references.sized.objects_few o object u own.own own.is own.thread there
+      (nowhere o) in
+      let none = given_none (length S.references.objects) S.references.threads
+      (parts S) rows.synchronization.locks rows.references.sized.objects_few o object u own.own own.is own.thread there
+      (nowhere o) in
       let counted : 0 < count_of S o = let at = total_at_least (total (mutex_names o)) S.synchronization.mutexes u.0 [] there in omega arith in
       record {
         thread = let a = inside S.references.threads w.0 awaits.row awaits.is in let b = rows.references.sized.duties in omega arith;
@@ -175,13 +187,22 @@ module _ (script : Script) (S : State) (rows : AreRows script S) (known : AreKno
 
   frees_may : (o u : ObjNo) (best : Option ObjNo) → MayFree S o u best → FreeMay S o u best
   frees_may o u None may = frees o u None may
-  frees_may o u (Some w) may = (frees o u (Some w) may, takes_passed o u w may.object may.thread may.nowhere (record { own = may.owns.owner; is = may.owns.is; thread = may.owns.thread }) (sym may.chosen))
+  frees_may o u (Some w) may = (
+    frees o u (Some w) may,
+    takes_passed o u w may.object may.thread may.nowhere
+        (record { own = may.owns.owner; is = may.owns.is; thread = may.owns.thread }) (sym may.chosen),
+  )
 
   pub can_lock : (t : ObjNo) (m : LockMove) → FitsLocks t m S → CanLock m S
   can_lock t (Start o count) fits = (placed o fits.object, fits.few, fits.free, fits.alone)
   can_lock t (Lock o u locked) fits = (joins o u _ (counted_made o fits.counted) fits.joins, fits.answer, locks_may o u locked fits)
   can_lock t (Unlock o u unlocked) fits = (placed o fits.1.object, fits.1.answer, unlocks_may o u unlocked fits.1)
-  can_lock t (Free o u best) fits = (placed o fits.1.object, is_owned (owner_at S.synchronization.locks o) fits.1.owns.owner fits.1.owns.is, fits.1.chosen, frees_may o u best fits.1)
+  can_lock t (Free o u best) fits = (
+    placed o fits.1.object,
+    is_owned (owner_at S.synchronization.locks o) fits.1.owns.owner fits.1.owns.is,
+    fits.1.chosen,
+    frees_may o u best fits.1,
+  )
   can_lock t (Leave u) fits = let a = thread_inside S.references.threads u.0 fits in let b = rows.references.sized.threads_few in omega arith
   can_lock t (WaitOn o u) fits = joins o u _ (alive_made o fits.alive) fits.joins
   can_lock t (Signal o signalled) fits = (placed o fits.object, fits.answer)

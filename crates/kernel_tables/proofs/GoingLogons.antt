@@ -18,7 +18,8 @@ one_names : (u : ObjNo) (s : ℕ) (logons : List (ObjNo × ℕ)) → list_any (i
 one_names u s [] some = absurd (cc)
 one_names u s (x ∷ rest) some = by (is_logon u s x) refl some (one_names u s rest)
   where
-    by : (b : Bool) → is_logon u s x ≡ b → (b || list_any (is_logon u s) rest) ≡ true → (list_any (is_logon u s) rest ≡ true → 0 < total (logon_names u s) rest) → 0 < total (logon_names u s) (x ∷ rest)
+    by : (b : Bool) → is_logon u s x ≡ b → (b || list_any (is_logon u s) rest) ≡ true
+        → (list_any (is_logon u s) rest ≡ true → 0 < total (logon_names u s) rest) → 0 < total (logon_names u s) (x ∷ rest)
     by true at some later = let one : logon_names u s x ≡ 1 = ap (λ (b : Bool). if b then 1 else 0) at in omega arith
     by false at some later = let more = later some in omega arith
 
@@ -26,17 +27,30 @@ some_logged : (u : ObjNo) (s : ℕ) (lists : List (List (ObjNo × ℕ))) → lis
 some_logged u s [] some = absurd (cc)
 some_logged u s (logons ∷ rest) some = by (list_any (is_logon u s) logons) refl some (some_logged u s rest)
   where
-    by : (b : Bool) → list_any (is_logon u s) logons ≡ b → (b || list_any (list_any (is_logon u s)) rest) ≡ true → (list_any (list_any (is_logon u s)) rest ≡ true → 0 < times_logged rest u s) → 0 < times_logged (logons ∷ rest) u s
+    by : (b : Bool) → list_any (is_logon u s) logons ≡ b → (b || list_any (list_any (is_logon u s)) rest) ≡ true
+        → (list_any (list_any (is_logon u s)) rest ≡ true → 0 < times_logged rest u s)
+        → 0 < times_logged (logons ∷ rest) u s
     by true here some later = let one = one_names u s logons here in omega arith
     by false here some later = let more = later some in omega arith
 
-pub can_logon : (script : Script) (S : State) (m : LogonMove) → AreRows script S → FitsLogons m S → CanLogon m (length S.references.owed) S.synchronization.logons
+pub can_logon : (script : Script) (S : State) (m : LogonMove) → AreRows script S → FitsLogons m S
+    → CanLogon m (length S.references.owed) S.synchronization.logons
 can_logon script S (Add t u s) rows fits =
     let duties = rows.references.sized.duties in
     let signals = rows.synchronization.requests.sized in
     let known = fits.1.thread in
-    let on = fits.0 in (omega arith, omega arith, fits.1.status, λ some. let one = some_logged u s S.synchronization.logons some in let none = fits.2 in omega arith)
-can_logon script S (Remove t u s) rows fits = let duties = rows.references.sized.duties in let on = fits.0 in let by = fits.1 in (omega arith, omega arith, fits.2)
+    let on = fits.0 in (
+      omega arith,
+      omega arith,
+      fits.1.status,
+      λ some. let one = some_logged u s S.synchronization.logons some in
+          let none = fits.2 in omega arith,
+    )
+can_logon script S (Remove t u s) rows fits =
+    let duties = rows.references.sized.duties in
+    let on = fits.0 in
+    let by = fits.1 in
+    (omega arith, omega arith, fits.2)
 can_logon script S (Drop u) rows fits =
     let duties = rows.references.sized.duties in
     let few = rows.references.sized.threads_few in

@@ -100,7 +100,8 @@ counted_dead : (row : Option ObjectRow) → 0 < is_dead row → IsTrue (is_dead_
 counted_dead None h = absurd (omega arith)
 counted_dead (Some row) h = bit_true row.dead h
 
-swept_dead : (script : Script) (S : State) (t o : ObjNo) (rest : List Owed) → AreRows script S → t.0 < length S.references.owed → owed_of S t ≡ Sweep o ∷ rest → IsTrue (is_dead_row (object_of S o))
+swept_dead : (script : Script) (S : State) (t o : ObjNo) (rest : List Owed) → AreRows script S
+    → t.0 < length S.references.owed → owed_of S t ≡ Sweep o ∷ rest → IsTrue (is_dead_row (object_of S o))
 swept_dead script S t o rest rows lt is =
     let at = total_at_least (total (owed_sweeps o)) S.references.owed t.0 [] lt in
     let was : total (owed_sweeps o) (owed_of S t) ≡ same o o + total (owed_sweeps o) rest = ap (total (owed_sweeps o)) is in
@@ -109,18 +110,21 @@ swept_dead script S t o rest rows lt is =
     counted_dead (object_of S o) (omega arith)
 
 -- and uses nothing
-swept_unused : (script : Script) (S : State) (t o : ObjNo) (rest : List Owed) (row : Option ThreadRow) → Sane script t S → owed_of S t ≡ Sweep o ∷ rest → thread_of S o ≡ row → use_of_row (thread_of S o) ≡ None
+swept_unused : (script : Script) (S : State) (t o : ObjNo) (rest : List Owed) (row : Option ThreadRow) → Sane script t S
+    → owed_of S t ≡ Sweep o ∷ rest → thread_of S o ≡ row → use_of_row (thread_of S o) ≡ None
 swept_unused script S t o rest None s owes is = ap use_of_row is
 swept_unused script S t o rest (Some row) s owes is =
     let over = sweep-over script S t o rest row owes s.inside s.rows is in
     ap use_of_row over.is ∙ over.spent.unused
 
 -- a move in the rows of threads that synchronize is one of a thread and of a fast mutex that are there
-sized_at : (threads : List (Option ThreadRow)) (t : ObjNo) (row : Option ThreadRow) → get_or threads t.0 None ≡ row → is_some (get_or threads t.0 None) ≡ true → t.0 < length threads
+sized_at : (threads : List (Option ThreadRow)) (t : ObjNo) (row : Option ThreadRow) → get_or threads t.0 None ≡ row
+    → is_some (get_or threads t.0 None) ≡ true → t.0 < length threads
 sized_at threads t (Some row) is some = inside threads t.0 row is
 sized_at threads t None is some = let clash : false ≡ true = ap (λ (x : Option ThreadRow). is_some x) (sym is) ∙ some in absurd (cc)
 
-can_nano : (script : Script) (S : State) (m : NanoMove) → AreRows script S → is_some (thread_of S (nano_thread m)) ≡ true → FitsNano m S → CanNano m S.synchronization.nano
+can_nano : (script : Script) (S : State) (m : NanoMove) → AreRows script S
+    → is_some (thread_of S (nano_thread m)) ≡ true → FitsNano m S → CanNano m S.synchronization.nano
 can_nano script S m rows there fits =
     let long = rows.synchronization.nano.sized in
     let at = sized_at S.references.threads (nano_thread m) (thread_of S (nano_thread m)) refl there in
@@ -130,7 +134,11 @@ can_nano script S m rows there fits =
     by_kind (nano.Take t f) at fits = (at, fits.0, fits.2.holds)
     by_kind (nano.Give t f) at fits = (at, fits.0)
     by_kind (nano.Want t None) at fits = (at, λ wanted is. absurd (cc))
-    by_kind (nano.Want t (Some f)) at fits = (at, λ wanted is. let same : f ≡ wanted = cc in subst (λ (n : ℕ). n < length S.synchronization.nano.holders) same fits.0)
+    by_kind (nano.Want t (Some f)) at fits = (
+      at,
+      λ wanted is. let same : f ≡ wanted = cc in
+          subst (λ (n : ℕ). n < length S.synchronization.nano.holders) same fits.0,
+    )
     by_kind (nano.Enter t) at fits = at
     by_kind (nano.Leave t) at fits = at
     by_kind (nano.LeaveAll t) at fits = at
@@ -141,7 +149,8 @@ can_nano script S m rows there fits =
     by_kind (nano.Lower t) at fits = at
 
 -- a move in the rows of requests names what is there, and completes what is pending
-can_request : (count : ℕ) (r : RequestRows) (m : RequestMove) (logons : List (List (ObjNo × ℕ))) → AreRequests count r → FitsRequests m r logons → CanRequest m r
+can_request : (count : ℕ) (r : RequestRows) (m : RequestMove) (logons : List (List (ObjNo × ℕ))) → AreRequests count r
+    → FitsRequests m r logons → CanRequest m r
 can_request count r (request.Begin d t s) logons rows fits = (fits.device, fits.thread, fits.status)
 can_request count r (request.Complete d t s code) logons rows fits =
     let known = rows.rows.requests_known d _ fits.1 in
@@ -197,15 +206,35 @@ known_opened S u o part (inr none) counted = absurd (omega arith)
 
 -- who comes back uses nothing yet
 pub back_unused : (script : Script) (S : State) (u o : ObjNo) → AreRows script S → ComesBack S u o → UsesNothing (thread_of S u)
-back_unused script S u o rows back = record { row = back.row; is = back.is; unused = (rows.references.threads.rows u.0 back.row back.is).unused (returning_before back.row.part back.returns) }
+back_unused script S u o rows back = record {
+  row = back.row;
+  is = back.is;
+  unused = (rows.references.threads.rows u.0 back.row back.is).unused (returning_before back.row.part back.returns);
+}
 
 -- when a move that fits can be made
-can_move : (script : Script) (S : State) (t : ObjNo) (m : Move) → IsShaped script → FitsMove script t m S → S.serving.messages.accepted < 4294967295 → RefsMove S (moved t m S) (told m S) → Sane script t S → OpensAlone S m → CanMove t m S
-can_move script S t (Make kind name h) shaped fits numbers refs s alone = (named kind name fits.2, fits.0.new, record { room = fits.0.room; fresh = next_fresh script S s.rows }, may_make S h fits.1, makes_least S h fits.1)
+can_move : (script : Script) (S : State) (t : ObjNo) (m : Move) → IsShaped script → FitsMove script t m S
+    → S.serving.messages.accepted < 4294967295 → RefsMove S (moved t m S) (told m S) → Sane script t S → OpensAlone S m
+    → CanMove t m S
+can_move script S t (Make kind name h) shaped fits numbers refs s alone = (
+  named kind name fits.2,
+  fits.0.new,
+  record { room = fits.0.room; fresh = next_fresh script S s.rows },
+  may_make S h fits.1,
+  makes_least S h fits.1,
+)
 can_move script S t (Gain h o) shaped fits numbers refs s alone = (referred script S o s.rows fits.1, may_gain S h fits.0, takes_least S h fits.0)
-can_move script S t (Lose h o) shaped fits numbers refs s alone = (referred script S o s.rows (was_held S (moved t (Lose h o) S) _ h o refs), few_places script S t s.rows, may_lose script S h o s.rows fits.1)
+can_move script S t (Lose h o) shaped fits numbers refs s alone = (
+  referred script S o s.rows (was_held S (moved t (Lose h o) S) _ h o refs),
+  few_places script S t s.rows,
+  may_lose script S h o s.rows fits.1,
+)
 can_move script S t (Find u o) shaped fits numbers refs s alone = tt
-can_move script S t (Open u o part) shaped fits numbers refs s alone = (referred script S o s.rows (known_opened S u o part alone (s.rows.lives.counted o fits.0.alive)), back_unused script S u o s.rows fits.0.back, tt)
+can_move script S t (Open u o part) shaped fits numbers refs s alone = (
+  referred script S o s.rows (known_opened S u o part alone (s.rows.lives.counted o fits.0.alive)),
+  back_unused script S u o s.rows fits.0.back,
+  tt,
+)
 can_move script S t (Miss u o) shaped fits numbers refs s alone = tt
 can_move script S t (GoOn u part) shaped fits numbers refs s alone = tt
 can_move script S t (Keep u number) shaped fits numbers refs s alone = tt
@@ -221,12 +250,18 @@ can_move script S t (Wake u) shaped fits numbers refs s alone = tt
 can_move script S t (SetPriority u priority) shaped fits numbers refs s alone = known script S s.rows
 can_move script S t (Nano m) shaped fits numbers refs s alone = can_nano script S m s.rows fits.0 fits.1
 can_move script S t (Deferred m) shaped fits numbers refs s alone = fits
-can_move script S t (Requests m) shaped fits numbers refs s alone = can_request (length S.references.threads) S.synchronization.requests m S.synchronization.logons s.rows.synchronization.requests fits.0
-can_move script S t (Locks m) shaped fits numbers refs s alone = can_lock script S s.rows (known script S s.rows) (λ o. referred script S o s.rows) (λ u. few_places script S u s.rows) t m fits
+can_move script S t (Requests m) shaped fits numbers refs s alone =
+    can_request (length S.references.threads) S.synchronization.requests m S.synchronization.logons
+    s.rows.synchronization.requests fits.0
+can_move script S t (Locks m) shaped fits numbers refs s alone =
+    can_lock script S s.rows (known script S s.rows) (λ o. referred script S o s.rows)
+    (λ u. few_places script S u s.rows) t m fits
 can_move script S t (Logons m) shaped fits numbers refs s alone = can_logon script S m s.rows fits
 can_move script S t (Death m) shaped fits numbers refs s alone = one_place script S t s.rows
 can_move script S t (Servers m) shaped fits numbers refs s alone = can_serve script S s.rows (λ o. referred script S o s.rows) m fits
-can_move script S t (Messages m) shaped fits numbers refs s alone = can_message script S s.rows (λ o. referred script S o s.rows) t m (few_places script S t s.rows) fits.0 fits.2 numbers
+can_move script S t (Messages m) shaped fits numbers refs s alone =
+    can_message script S s.rows (λ o. referred script S o s.rows) t m
+    (few_places script S t s.rows) fits.0 fits.2 numbers
 can_move script S t (Fill p at size byte) shaped fits numbers refs s alone = fits
 can_move script S t (Copies m) shaped fits numbers refs s alone = fits
 can_move script S t (Pay what) shaped fits numbers refs s alone = absurd fits
@@ -235,10 +270,12 @@ can_move script S t (Pay what) shaped fits numbers refs s alone = absurd fits
 set_other : (u v : ObjNo) → (u.0 == v.0) ≡ false → v.0 ≡ u.0 → ⊥
 set_other u v other same = let is : (u.0 == v.0) ≡ true = eq-eqb u.0 v.0 (sym same) in cc
 
-ranks_move : (script : Script) (S : State) (t : ObjNo) (m : Move) (u : ObjNo) → FitsMove script t m S → is_set m u ≡ false → priority_of (moved t m S) u ≡ priority_of S u
+ranks_move : (script : Script) (S : State) (t : ObjNo) (m : Move) (u : ObjNo) → FitsMove script t m S
+    → is_set m u ≡ false → priority_of (moved t m S) u ≡ priority_of S u
 ranks_move script S t (Wait v what) u fits unset = rank-with_row S.references.threads v (with_waiting what) u (λ r. refl)
 ranks_move script S t (Wake v) u fits unset = rank-with_row S.references.threads v (with_waiting waiting.Nothing) u (λ r. refl)
-ranks_move script S t (SetPriority v priority) u fits unset = ap priority_of_row (row-other S.references.threads v (with_priority priority) u.0 (set_other u v unset))
+ranks_move script S t (SetPriority v priority) u fits unset =
+    ap priority_of_row (row-other S.references.threads v (with_priority priority) u.0 (set_other u v unset))
 ranks_move script S t (Nano m) u fits unset = refl
 ranks_move script S t (Deferred m) u fits unset = refl
 ranks_move script S t (Requests m) u fits unset = refl
@@ -264,7 +301,8 @@ ranks_move script S t (Advance v) u fits unset = rank-with_row S.references.thre
 ranks_move script S t (Pay what) u fits unset = absurd fits
 
 -- what a move that fits leaves is in order
-move_runs : (script : Script) (S : State) (t : ObjNo) (m : Move) → FitsMove script t m S → total weight (owed_of S t) + most_owed m ≤ 12 → Sane script t S → MoveRuns script t m S
+move_runs : (script : Script) (S : State) (t : ObjNo) (m : Move) → FitsMove script t m S
+    → total weight (owed_of S t) + most_owed m ≤ 12 → Sane script t S → MoveRuns script t m S
 move_runs script S t m fits few s =
     let T = moved t m S in
     let sound = sound-move script S t m fits few s in
@@ -278,7 +316,8 @@ move_runs script S t m fits few s =
       out = stays-out script S t m fits;
     }
 
-pub each_runs : (script : Script) (S : State) (t : ObjNo) (ms : List Move) → EachFits script t ms S → total weight (owed_of S t) + total most_owed ms ≤ 12 → Sane script t S → MovesRun script t ms S
+pub each_runs : (script : Script) (S : State) (t : ObjNo) (ms : List Move) → EachFits script t ms S
+    → total weight (owed_of S t) + total most_owed ms ≤ 12 → Sane script t S → MovesRun script t ms S
 each_runs script S t [] fits few s = tt
 each_runs script S t (m ∷ ms) fits few s =
     let T = moved t m S in
@@ -287,7 +326,9 @@ each_runs script S t (m ∷ ms) fits few s =
     (move_runs script S t m fits.0 (omega arith) s, each_runs script T t ms fits.1 (omega arith) (sane-after script S T t (told m S) s sound))
 
 -- each of the moves that fit goes through
-pub each_goes : (script : Script) (S : State) (t : ObjNo) (ms : List Move) → IsShaped script → EachFits script t ms S → total weight (owed_of S t) + total most_owed ms ≤ 12 → Sane script t S → (S.mode.shared ≡ false) ⊎ (total opening_bit ms ≡ 0) → MovesGo script t ms S
+pub each_goes : (script : Script) (S : State) (t : ObjNo) (ms : List Move) → IsShaped script → EachFits script t ms S
+    → total weight (owed_of S t) + total most_owed ms ≤ 12 → Sane script t S
+    → (S.mode.shared ≡ false) ⊎ (total opening_bit ms ≡ 0) → MovesGo script t ms S
 each_goes script S t [] shaped fits few s alone = tt
 each_goes script S t (m ∷ ms) shaped fits few s alone =
     let T = moved t m S in
@@ -310,17 +351,21 @@ each_goes script S t (m ∷ ms) shaped fits few s alone =
     later (inr none) = inr (omega arith)
 
 -- so does the payment of what is owed
-can_pay : (script : Script) (S : State) (t : ObjNo) (what : Owed) (rest : List Owed) → owed_of S t ≡ what ∷ rest → RefsMove S (moved t (Pay what) S) (told (Pay what) S) → Sane script t S → CanMove t (Pay what) S
-can_pay script S t (Close h o) rest owes refs s = (referred script S o s.rows (was_held S (moved t (Pay (Close h o)) S) _ h o refs), few_places script S t s.rows)
+can_pay : (script : Script) (S : State) (t : ObjNo) (what : Owed) (rest : List Owed) → owed_of S t ≡ what ∷ rest
+    → RefsMove S (moved t (Pay what) S) (told (Pay what) S) → Sane script t S → CanMove t (Pay what) S
+can_pay script S t (Close h o) rest owes refs s =
+    (referred script S o s.rows (was_held S (moved t (Pay (Close h o)) S) _ h o refs), few_places script S t s.rows)
 can_pay script S t (Sweep o) rest owes refs s =
     let dead = swept_dead script S t o rest s.rows (let long = s.rows.references.sized.duties in let there = s.inside in omega arith) owes in
     (dead, swept_unused script S t o rest (thread_of S o) s owes refl)
 
-ranks_pay : (script : Script) (S : State) (t : ObjNo) (what : Owed) (u : ObjNo) → is_set (Pay what) u ≡ false → priority_of (moved t (Pay what) S) u ≡ priority_of S u
+ranks_pay : (script : Script) (S : State) (t : ObjNo) (what : Owed) (u : ObjNo) → is_set (Pay what) u ≡ false
+    → priority_of (moved t (Pay what) S) u ≡ priority_of S u
 ranks_pay script S t (Close h o) u unset = rank-closed S.references.threads _ o u
 ranks_pay script S t (Sweep o) u unset = rank-other S.references.threads o u (λ at. set_other u o unset (sym at))
 
-pub pay_goes : (script : Script) (S : State) (t : ObjNo) (what : Owed) (rest : List Owed) → owed_of S t ≡ what ∷ rest → Sane script t S → MoveGoes script t (Pay what) S
+pub pay_goes : (script : Script) (S : State) (t : ObjNo) (what : Owed) (rest : List Owed) → owed_of S t ≡ what ∷ rest
+    → Sane script t S → MoveGoes script t (Pay what) S
 pay_goes script S t what rest owes s =
     let T = moved t (Pay what) S in
     let sound = sound-pay script S t what rest owes s in

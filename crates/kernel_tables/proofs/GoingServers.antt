@@ -47,7 +47,9 @@ found_named m (y ∷ xs) x is =
     ]
 
 -- what is owed of a finished message
-pub finished_owes : (r : MessageRows) (m : MsgNo) (told : Finished) (x : Option Message) → message_of r m ≡ x → IsSome x → IfSome x (λ message. told ≡ finished_of message) → closes_of (message_of r m) ≡ Close (OfMessage m) told.session ∷ Close (OfMessage m) told.client ∷ []
+pub finished_owes : (r : MessageRows) (m : MsgNo) (told : Finished) (x : Option Message) → message_of r m ≡ x → IsSome x
+    → IfSome x (λ message. told ≡ finished_of message)
+    → closes_of (message_of r m) ≡ Close (OfMessage m) told.session ∷ Close (OfMessage m) told.client ∷ []
 finished_owes r m told None is some finished = absurd (cc)
 finished_owes r m told (Some message) is some finished =
     let named : ℕ → MsgNo = λ n. record { 0 = n } in
@@ -55,16 +57,20 @@ finished_owes r m told (Some message) is some finished =
     rw (is, finished, number) refl
 
 -- a message that isn't turned away is added
-pub accepted_rows : (r : MessageRows) (slots : Slots) (row : MsgRow) → row.taken ≡ false → is_busy r slots row ≡ false → after_accept r slots (new_row row.session row.server row.client row.function row.args row.way) ≡ added r slots row
+pub accepted_rows : (r : MessageRows) (slots : Slots) (row : MsgRow) → row.taken ≡ false → is_busy r slots row ≡ false
+    → after_accept r slots (new_row row.session row.server row.client row.function row.args row.way) ≡ added r slots row
 accepted_rows r slots row untaken free =
-    let fresh : new_row row.session row.server row.client row.function row.args row.way ≡ row = ap (λ (taken : Bool). record row { taken = taken }) (sym untaken) in
+    let fresh : new_row row.session row.server row.client row.function row.args row.way ≡ row =
+    ap (λ (taken : Bool). record row { taken = taken }) (sym untaken) in
     rw (fresh, free) refl
 
 -- a count that gets one more, or another one
-pub one_more : (counts : List ℕ) (x y : ObjNo) → let first = slice_set counts x.0 (slice_index counts x.0 + 1) in (slice_index counts y.0 ≤ slice_index first y.0) × (slice_index first y.0 ≤ slice_index counts y.0 + 1)
+pub one_more : (counts : List ℕ) (x y : ObjNo) → let first = slice_set counts x.0 (slice_index counts x.0 + 1) in
+    (slice_index counts y.0 ≤ slice_index first y.0) × (slice_index first y.0 ≤ slice_index counts y.0 + 1)
 one_more counts x y = more counts x.0 y.0
   where
-    more : (xs : List ℕ) (i k : ℕ) → (get_or xs k 0 ≤ get_or (set xs i (get_or xs i 0 + 1)) k 0) × (get_or (set xs i (get_or xs i 0 + 1)) k 0 ≤ get_or xs k 0 + 1)
+    more : (xs : List ℕ) (i k : ℕ) → (get_or xs k 0 ≤ get_or (set xs i (get_or xs i 0 + 1)) k 0)
+        × (get_or (set xs i (get_or xs i 0 + 1)) k 0 ≤ get_or xs k 0 + 1)
     more [] i k = (omega arith, omega arith)
     more (n ∷ xs) zero zero = (omega arith, omega arith)
     more (n ∷ xs) zero (suc k) = (omega arith, omega arith)
@@ -81,8 +87,13 @@ module _ (script : Script) (S : State) (rows : AreRows script S) (referred : (o 
   can_serve (Start o u) fits =
       let sized = rows.serving.servers.servers_sized in
       let next = ap (λ (x : ObjNo). x.0) fits.next in
-      let room = fits.room in
-      (omega arith, record { no_session = rows.serving.servers.linked_made o (omega arith); no_server = ap link_of (rows.serving.servers.sessions_made o (omega arith)) })
+      let room = fits.room in (
+        omega arith,
+        record {
+          no_session = rows.serving.servers.linked_made o (omega arith);
+          no_server = ap link_of (rows.serving.servers.sessions_made o (omega arith));
+        },
+      )
   can_serve (Join s o slots u) fits =
       let sized = rows.serving.servers.servers_sized in
       let few = rows.references.sized.objects_few in
@@ -99,7 +110,8 @@ module _ (script : Script) (S : State) (rows : AreRows script S) (referred : (o 
   can_serve (SetOpen s false) fits = fits
   can_serve (End o) fits = tt
 
-  accepts : (slots : Slots) (row : MsgRow) → MayAccept S row → is_busy S.serving.messages slots row ≡ false → S.serving.messages.accepted < 4294967295 → CanAccept S slots row
+  accepts : (slots : Slots) (row : MsgRow) → MayAccept S row → is_busy S.serving.messages slots row ≡ false
+      → S.serving.messages.accepted < 4294967295 → CanAccept S slots row
   unfolding most_messages
   accepts slots row fits left numbers = record {
     server = let sized = rows.serving.messages.objects in let small = fits.server in omega arith;
@@ -111,7 +123,8 @@ module _ (script : Script) (S : State) (rows : AreRows script S) (referred : (o 
     number = numbers;
   }
 
-  pub can_message : (t : ObjNo) (m : MessageMove) → HasPlaces 2 S t → FitsMessages m S → HasSlot m S → S.serving.messages.accepted < 4294967295 → CanMessage t m S
+  pub can_message : (t : ObjNo) (m : MessageMove) → HasPlaces 2 S t → FitsMessages m S → HasSlot m S
+      → S.serving.messages.accepted < 4294967295 → CanMessage t m S
   can_message t (Accept slots row) places fits left numbers = accepts slots row fits left numbers
   can_message t (Take o) places fits left numbers = let sized = rows.serving.messages.objects in omega arith
   can_message t (Finish m code) places fits left numbers = (fits, places)

@@ -23,12 +23,14 @@ sought_counted S o sought =
     let back = sought.back in
     let there = inside S.references.threads sought.finder.0 back.row back.is in
     let at = total_at_least (seeks o) S.references.threads sought.finder.0 None there in
-    let one : seeks o (thread_of S sought.finder) ≡ same (found_object back.row) o = ap (seeks o) back.is ∙ if_is (is_returning back.row.part) (same (found_object back.row) o) back.returns in
+    let one : seeks o (thread_of S sought.finder) ≡ same (found_object back.row) o =
+    ap (seeks o) back.is ∙ if_is (is_returning back.row.part) (same (found_object back.row) o) back.returns in
     let found : same (found_object back.row) o ≡ 1 = ap (λ (x : ObjNo). same x o) back.found ∙ same_self o in
     rw sought.shared (omega arith)
 
 -- the answer, by whether there is one reference, whether what is closed is kept, and whether somebody is out
-last_by : (last one keep some : Bool) → (last ≡ true → one ≡ true) → (last ≡ true → keep ≡ false) → (last ≡ false → one ≡ true → (keep ≡ true) × (some ≡ true)) → last ≡ (one && not (keep && some))
+last_by : (last one keep some : Bool) → (last ≡ true → one ≡ true) → (last ≡ true → keep ≡ false)
+    → (last ≡ false → one ≡ true → (keep ≡ true) × (some ≡ true)) → last ≡ (one && not (keep && some))
 last_by true true false some only unkept out = refl
 last_by true true true some only unkept out = let clash = unkept refl in absurd (cc)
 last_by true false keep some only unkept out = let clash = only refl in absurd (cc)
@@ -37,8 +39,13 @@ last_by false true true true only unkept out = refl
 last_by false true true false only unkept out = let clash = (out refl refl).1 in absurd (cc)
 last_by false true false some only unkept out = let clash = (out refl refl).0 in absurd (cc)
 
-pub last_chosen : (counts : List ℕ) (notes : Notes) (S : State) (o : ObjNo) (last : Bool) (mode : Mode) → MayClose notes S → slice_index counts o.0 ≡ count_of S o → (last ≡ true → slice_index counts o.0 ≡ 1) → (last ≡ false → slice_index counts o.0 ≡ 1 → HasNoteOf notes o.0) → mode ≡ mode_after (dead_of last o) S.mode → last ≡ dies (keeping mode.keep S) o
+pub last_chosen : (counts : List ℕ) (notes : Notes) (S : State) (o : ObjNo) (last : Bool) (mode : Mode)
+    → MayClose notes S → slice_index counts o.0 ≡ count_of S o → (last ≡ true → slice_index counts o.0 ≡ 1)
+    → (last ≡ false → slice_index counts o.0 ≡ 1 → HasNoteOf notes o.0) → mode ≡ mode_after (dead_of last o) S.mode
+    → last ≡ dies (keeping mode.keep S) o
 last_chosen counts notes S o last mode may agree only out is =
-    let keep : (l : Bool) → last ≡ l → mode.keep ≡ (mode_after (dead_of l o) S.mode).keep = λ l e. ap (λ (m : Mode). m.keep) is ∙ ap (λ (b : Bool). (mode_after (dead_of b o) S.mode).keep) e in
+    let keep : (l : Bool) → last ≡ l → mode.keep ≡ (mode_after (dead_of l o) S.mode).keep =
+    λ l e. ap (λ (m : Mode). m.keep) is ∙ ap (λ (b : Bool). (mode_after (dead_of b o) S.mode).keep) e in
     last_by last (count_of S o == 1) mode.keep (nat_lt 0 (outs_of S o)) (λ e. eq-eqb (count_of S o) 1 (sym agree ∙ only e)) (keep true)
-    (λ e one. let sought = may.1 o (out e (agree ∙ eqb-true (count_of S o) 1 one)) in (keep false e ∙ may.0 ∙ sought.shared, lt-ltb 0 (outs_of S o) (sought_counted S o sought)))
+    (λ e one. let sought = may.1 o (out e (agree ∙ eqb-true (count_of S o) 1 one)) in
+    (keep false e ∙ may.0 ∙ sought.shared, lt-ltb 0 (outs_of S o) (sought_counted S o sought)))

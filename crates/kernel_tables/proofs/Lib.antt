@@ -18,5 +18,6 @@ pub mod ReadyChanges
 pub mod ReadyLists
 pub mod ReadyQueues
 pub mod ReadyRows
+mod RunningOn
 mod Slots
 mod Tying

@@ -14,6 +14,7 @@ alive_is None alive = absurd alive
 alive_is (Some row) alive = rw alive refl
 
 -- a note that finds nothing alive counts nothing
-pub dropped : (found : Found) (row : Option ObjectRow) (counts : List ℕ) (p : ℕ) → (found ≡ Held → IsTrue (is_alive row)) → is_alive row ≡ false → counts_found found counts p ≡ counts
+pub dropped : (found : Found) (row : Option ObjectRow) (counts : List ℕ) (p : ℕ)
+    → (found ≡ Held → IsTrue (is_alive row)) → is_alive row ≡ false → counts_found found counts p ≡ counts
 dropped Dead row counts p held gone = refl
 dropped Held row counts p held gone = let alive = held refl in absurd (cc)

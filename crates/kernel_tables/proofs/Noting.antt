@@ -21,7 +21,8 @@ use_kept : (row : Option ThreadRow) (f : ThreadRow → ThreadRow) → ((r : Thre
 use_kept None f keeps = refl
 use_kept (Some r) f keeps = keeps r
 
-pub noted_row : (s : Lists) (threads : List (Option ThreadRow)) (t : ObjNo) (f : ThreadRow → ThreadRow) → ((r : ThreadRow) → (f r).uses ≡ r.uses) → AreNoted s threads → AreNoted s (with_row threads t f)
+pub noted_row : (s : Lists) (threads : List (Option ThreadRow)) (t : ObjNo) (f : ThreadRow → ThreadRow)
+    → ((r : ThreadRow) → (f r).uses ≡ r.uses) → AreNoted s threads → AreNoted s (with_row threads t f)
 noted_row s threads t f keeps noted =
     noted ∙ sym (map-set_same use_of_row threads t.0 (option_map f (get_or threads t.0 None)) None (use_kept (get_or threads t.0 None) f keeps))
 
@@ -30,12 +31,14 @@ noted_closed s threads true o noted = noted_row s threads o unlinked (λ r. refl
 noted_closed s threads false o noted = noted
 
 -- and so does one that goes and uses nothing
-pub noted_swept : (s : Lists) (threads : List (Option ThreadRow)) (o : ObjNo) → use_of_row (get_or threads o.0 None) ≡ None → AreNoted s threads → AreNoted s (set threads o.0 None)
+pub noted_swept : (s : Lists) (threads : List (Option ThreadRow)) (o : ObjNo)
+    → use_of_row (get_or threads o.0 None) ≡ None → AreNoted s threads → AreNoted s (set threads o.0 None)
 noted_swept s threads o unused noted =
     noted ∙ sym (map-set_same use_of_row threads o.0 None None (sym unused))
 
 -- a row whose use changes is noted so
-noted_set : (s : Lists) (threads : List (Option ThreadRow)) (t : ObjNo) (row : Option ThreadRow) (uses : Option ObjNo) → use_of_row row ≡ uses → AreNoted s threads → AreNoted (with_use s t uses) (set threads t.0 row)
+noted_set : (s : Lists) (threads : List (Option ThreadRow)) (t : ObjNo) (row : Option ThreadRow) (uses : Option ObjNo)
+    → use_of_row row ≡ uses → AreNoted s threads → AreNoted (with_use s t uses) (set threads t.0 row)
 noted_set s threads t row uses is noted =
     ap (λ (l : List (Option ObjNo)). set l t.0 uses) noted ∙ (ap (set (map use_of_row threads) t.0) (sym is) ∙ sym (map-set use_of_row threads t.0 row))
 
@@ -58,9 +61,11 @@ ended_row None = refl
 ended_row (Some row) = refl
 
 -- a holder gets a reference, and gives it up
-pub noted_gained : (s : Lists) (S : State) (h : Holder) (o : ObjNo) → MayGain S h → AreNoted s S.references.threads → AreNoted (use_gained h o s) (threads_gain h o S.references.threads)
+pub noted_gained : (s : Lists) (S : State) (h : Holder) (o : ObjNo) → MayGain S h → AreNoted s S.references.threads
+    → AreNoted (use_gained h o s) (threads_gain h o S.references.threads)
 noted_gained s S (Temp t) o may noted =
-    noted_set s S.references.threads t (option_map (row_with_use (Some o)) (get_or S.references.threads t.0 None)) (Some o) (ap (λ (x : Option ThreadRow). use_of_row (option_map (row_with_use (Some o)) x)) may.is) noted
+    noted_set s S.references.threads t (option_map (row_with_use (Some o)) (get_or S.references.threads t.0 None))
+    (Some o) (ap (λ (x : Option ThreadRow). use_of_row (option_map (row_with_use (Some o)) x)) may.is) noted
 noted_gained s S (InProcess p i) o may noted = noted
 noted_gained s S (InThread t i) o may noted = noted
 noted_gained s S (Own t) o may noted = noted
@@ -69,12 +74,17 @@ noted_gained s S (Message m) o may noted = noted
 noted_gained s S Kernel o may noted = noted
 
 -- who comes back uses what it opens
-pub noted_opened : (s : Lists) (S : State) (t o : ObjNo) (part : Part) → UsesNothing (thread_of S t) → AreNoted s S.references.threads → AreNoted (use_gained (Temp t) o s) (with_row S.references.threads t (with_opened o part))
+pub noted_opened : (s : Lists) (S : State) (t o : ObjNo) (part : Part) → UsesNothing (thread_of S t)
+    → AreNoted s S.references.threads
+    → AreNoted (use_gained (Temp t) o s) (with_row S.references.threads t (with_opened o part))
 noted_opened s S t o part may noted =
-    noted_set s S.references.threads t (option_map (with_opened o part) (get_or S.references.threads t.0 None)) (Some o) (ap (λ (x : Option ThreadRow). use_of_row (option_map (with_opened o part) x)) may.is) noted
+    noted_set s S.references.threads t (option_map (with_opened o part) (get_or S.references.threads t.0 None)) (Some o)
+    (ap (λ (x : Option ThreadRow). use_of_row (option_map (with_opened o part) x)) may.is) noted
 
 pub noted_lost : (s : Lists) (threads : List (Option ThreadRow)) (h : Holder) → AreNoted s threads → AreNoted (use_lost h s) (threads_lose h threads)
-noted_lost s threads (Temp t) noted = noted_set s threads t (option_map (row_with_use None) (get_or threads t.0 None)) None (unused_row (get_or threads t.0 None)) noted
+noted_lost s threads (Temp t) noted =
+    noted_set s threads t (option_map (row_with_use None) (get_or threads t.0 None)) None
+    (unused_row (get_or threads t.0 None)) noted
 noted_lost s threads (InProcess p i) noted = noted
 noted_lost s threads (InThread t i) noted = noted
 noted_lost s threads (Own t) noted = noted

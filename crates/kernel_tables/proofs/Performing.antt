@@ -43,10 +43,13 @@ pairs_same rank other [] same = refl
 pairs_same rank other (q ∷ qs) same =
     let named : ℕ → ObjNo × ℕ = λ n. (q, n) in
     let first = same q (or_left (q.0 == q.0) (is_listed qs q) (eq-eqb q.0 q.0 refl)) in
-    ap (λ (n : ℕ). named n ∷ pairs rank qs) (sym first) ∙ ap (λ l. pair other q ∷ l) (pairs_same rank other qs (λ t listed. same t (or_right (q.0 == t.0) (is_listed qs t) listed)))
+    ap (λ (n : ℕ). named n ∷ pairs rank qs) (sym first)
+    ∙ ap (λ l. pair other q ∷ l) (pairs_same rank other qs
+    (λ t listed. same t (or_right (q.0 == t.0) (is_listed qs t) listed)))
 
 -- are as ready by one as by the other
-pub ranks_same : (rank other : ObjNo → ℕ) (qs : List ObjNo) (r : Ready) → ((t : ObjNo) → is_listed qs t ≡ true → other t ≡ rank t) → AreReady rank qs r → AreReady other qs r
+pub ranks_same : (rank other : ObjNo → ℕ) (qs : List ObjNo) (r : Ready)
+    → ((t : ObjNo) → is_listed qs t ≡ true → other t ≡ rank t) → AreReady rank qs r → AreReady other qs r
 ranks_same rank other qs r same h = record {
   queues = subst (λ (l : List (ObjNo × ℕ)). AreQueuesOf l r) (pairs_same rank other qs same) h.queues;
   once = h.once;
@@ -61,13 +64,17 @@ perform_append t (m ∷ ms) ns S = perform_append t ms ns (moved t m S)
 
 pub tell_append : (t : ObjNo) (ms ns : List Move) (S : State) → tell t (ms ++ ns) S ≡ tell t ms S ++ tell t ns (perform t ms S)
 tell_append t [] ns S = refl
-tell_append t (m ∷ ms) ns S = ap (λ (es : List Effect). told m S ++ es) (tell_append t ms ns (moved t m S)) ∙ sym (append_assoc (told m S) (tell t ms (moved t m S)) (tell t ns (perform t ms (moved t m S))))
+tell_append t (m ∷ ms) ns S =
+    ap (λ (es : List Effect). told m S ++ es) (tell_append t ms ns (moved t m S))
+    ∙ sym (append_assoc (told m S) (tell t ms (moved t m S)) (tell t ns (perform t ms (moved t m S))))
 
-arrivals_append : (script : Script) (t : ObjNo) (ms ns : List Move) (S : State) (qs : List ObjNo) → arrivals script t (ms ++ ns) S qs ≡ arrivals script t ns (perform t ms S) (arrivals script t ms S qs)
+arrivals_append : (script : Script) (t : ObjNo) (ms ns : List Move) (S : State) (qs : List ObjNo)
+    → arrivals script t (ms ++ ns) S qs ≡ arrivals script t ns (perform t ms S) (arrivals script t ms S qs)
 arrivals_append script t [] ns S qs = refl
 arrivals_append script t (m ∷ ms) ns S qs = arrivals_append script t ms ns (moved t m S) (arrive script (moved t m S) (touched t m) (taken_out m qs))
 
-pub moves_part : (script : Script) (t : ObjNo) (ms ns : List Move) (S : State) → MovesGo script t (ms ++ ns) S → MovesGo script t ms S × MovesGo script t ns (perform t ms S)
+pub moves_part : (script : Script) (t : ObjNo) (ms ns : List Move) (S : State) → MovesGo script t (ms ++ ns) S
+    → MovesGo script t ms S × MovesGo script t ns (perform t ms S)
 moves_part script t [] ns S go = (tt, go)
 moves_part script t (m ∷ ms) ns S go = let parts = moves_part script t ms ns (moved t m S) go.1 in ((go.0, parts.0), parts.1)
 
@@ -109,7 +116,9 @@ silent : (script : Script) (t : ObjNo) (ms : List Move) (S : State) → total cl
 silent script t ms S none = (blind-all script t ms S (sym (closes_all ms) ∙ none)).silent
 
 -- so they leave the choice as it was
-pub unchosen : (script : Script) (t : ObjNo) (ms : List Move) (old new : State) (before after : Ready) (was is : List Effect) → total closing_bit ms ≡ 0 → IsPerformed script t ms old new before after was is → new.mode.keep ≡ old.mode.keep
+pub unchosen : (script : Script) (t : ObjNo) (ms : List Move) (old new : State) (before after : Ready)
+    (was is : List Effect)
+    → total closing_bit ms ≡ 0 → IsPerformed script t ms old new before after was is → new.mode.keep ≡ old.mode.keep
 unchosen script t ms old new before after was is none done =
     done.keeps ∙ ap (λ (b : Bool). old.mode.keep && b) (silent script t ms (keeping new.mode.keep old) none) ∙ sym (own_choice old.mode.keep)
 
@@ -118,8 +127,12 @@ pub performed_none : (script : Script) (t : ObjNo) (S : State) (r : Ready) (was 
 performed_none script t S r was = record { state = refl; told = sym (append-nil was); queues = λ qs ready. ready; keeps = own_choice S.mode.keep }
 
 -- and the state is the one that they leave of the old one
-pub calm_state : (script : Script) (t : ObjNo) (ms : List Move) (old new : State) (before after : Ready) (was is : List Effect) → total closing_bit ms ≡ 0 → IsPerformed script t ms old new before after was is → new ≡ perform t ms old
-calm_state script t ms old new before after was is none done = done.state ∙ ap (λ (b : Bool). perform t ms (keeping b old)) (unchosen script t ms old new before after was is none done)
+pub calm_state : (script : Script) (t : ObjNo) (ms : List Move) (old new : State) (before after : Ready)
+    (was is : List Effect)
+    → total closing_bit ms ≡ 0 → IsPerformed script t ms old new before after was is → new ≡ perform t ms old
+calm_state script t ms old new before after was is none done =
+    done.state
+    ∙ ap (λ (b : Bool). perform t ms (keeping b old)) (unchosen script t ms old new before after was is none done)
 
 -- moves that were made with one choice come to the same with another, where none of them gives a reference up or both are one
 record ComesTo (script : Script) (t : ObjNo) (ms : List Move) (old mid : State) (keep : Bool) : Type 0 where
@@ -127,7 +140,9 @@ record ComesTo (script : Script) (t : ObjNo) (ms : List Move) (old mid : State) 
   pub tells : tell t ms (keeping keep old) ≡ tell t ms (keeping mid.mode.keep old)
   pub arrives : (qs : List ObjNo) → arrivals script t ms (keeping keep old) qs ≡ arrivals script t ms (keeping mid.mode.keep old) qs
 
-comes_to : (script : Script) (t : ObjNo) (ms : List Move) (old mid : State) (keep : Bool) → mid ≡ perform t ms (keeping mid.mode.keep old) → (total closing_bit ms ≡ 0) ⊎ (keep ≡ mid.mode.keep) → ComesTo script t ms old mid keep
+comes_to : (script : Script) (t : ObjNo) (ms : List Move) (old mid : State) (keep : Bool)
+    → mid ≡ perform t ms (keeping mid.mode.keep old) → (total closing_bit ms ≡ 0) ⊎ (keep ≡ mid.mode.keep)
+    → ComesTo script t ms old mid keep
 comes_to script t ms old mid keep is (inl none) =
     let blind = blind-all script t ms old (sym (closes_all ms) ∙ none) in
     record {
@@ -149,33 +164,55 @@ one_of_two a b few = elim (cases_lt 0 a) as (λ _. (a ≡ 0) ⊎ (b ≡ 0)) [
 ]
 
 -- moves, and then others
-pub performed_then : (script : Script) (t : ObjNo) (ms ns : List Move) (old mid new : State) (before between after : Ready) (was es is : List Effect) → total closing_bit (ms ++ ns) ≤ 1 → IsPerformed script t ms old mid before between was es → IsPerformed script t ns mid new between after es is → IsPerformed script t (ms ++ ns) old new before after was is
+pub performed_then : (script : Script) (t : ObjNo) (ms ns : List Move) (old mid new : State)
+    (before between after : Ready) (was es is : List Effect)
+    → total closing_bit (ms ++ ns) ≤ 1 → IsPerformed script t ms old mid before between was es
+    → IsPerformed script t ns mid new between after es is → IsPerformed script t (ms ++ ns) old new before after was is
 performed_then script t ms ns old mid new before between after was es is once first second =
     let keep = new.mode.keep in
     let S = keeping keep old in
     let T = perform t ms S in
     let sum = closes_append ms ns in
-    let way : (total closing_bit ms ≡ 0) ⊎ (keep ≡ mid.mode.keep) = elim (one_of_two (total closing_bit ms) (total closing_bit ns) (omega arith)) as (λ _. (total closing_bit ms ≡ 0) ⊎ (keep ≡ mid.mode.keep)) [
+    let way : (total closing_bit ms ≡ 0) ⊎ (keep ≡ mid.mode.keep) =
+    elim (one_of_two (total closing_bit ms) (total closing_bit ns) (omega arith)) as
+    (λ _. (total closing_bit ms ≡ 0) ⊎ (keep ≡ mid.mode.keep)) [
       | inl none ↦ inl none
       | inr none ↦ inr (unchosen script t ns mid new between after es is none second)
     ] in
     let comes = comes_to script t ms old mid keep first.state way in
     let here = sym comes.moves in
     let tells : es ≡ was ++ tell t ms S = first.told ∙ ap (λ (l : List Effect). was ++ l) (sym comes.tells) in
-    let deaths : is_deathless (tell t (ms ++ ns) S) ≡ (is_deathless (tell t ms (keeping mid.mode.keep old)) && is_deathless (tell t ns (keeping keep mid))) = ap is_deathless (tell_append t ms ns S) ∙ deathless_both (tell t ms S) (tell t ns T) ∙ ap (λ (l : List Effect). is_deathless l && is_deathless (tell t ns T)) comes.tells ∙ ap (λ (U : State). is_deathless (tell t ms (keeping mid.mode.keep old)) && is_deathless (tell t ns U)) comes.moves in
+    let deaths : is_deathless (tell t (ms ++ ns) S)
+    ≡ (is_deathless (tell t ms (keeping mid.mode.keep old)) && is_deathless (tell t ns (keeping keep mid))) =
+    ap is_deathless (tell_append t ms ns S)
+    ∙ deathless_both (tell t ms S) (tell t ns T)
+    ∙ ap (λ (l : List Effect). is_deathless l && is_deathless (tell t ns T)) comes.tells
+    ∙ ap (λ (U : State). is_deathless (tell t ms (keeping mid.mode.keep old)) && is_deathless (tell t ns U))
+    comes.moves in
     record {
       state = second.state ∙ (ap (perform t ns) here ∙ sym (perform_append t ms ns S));
       told = second.told ∙ (ap (λ (U : State). es ++ tell t ns U) here ∙ (ap (λ (l : List Effect). l ++ tell t ns T) tells
           ∙ (append_assoc was (tell t ms S) (tell t ns T) ∙ ap (λ (l : List Effect). was ++ l) (sym (tell_append t ms ns S)))));
       queues = λ qs ready.
           let at : arrivals script t ms (keeping mid.mode.keep old) qs ≡ arrivals script t ms S qs = sym (comes.arrives qs) in
-          subst (λ (l : List ObjNo). AreReady (priority_of new) l after) (ap (λ (l : List ObjNo). arrivals script t ns (keeping keep mid) l) at ∙ ap (λ (U : State). arrivals script t ns U (arrivals script t ms S qs)) here ∙ sym (arrivals_append script t ms ns S qs))
+          subst (λ (l : List ObjNo). AreReady (priority_of new) l after)
+          (ap (λ (l : List ObjNo). arrivals script t ns (keeping keep mid) l) at
+          ∙ ap (λ (U : State). arrivals script t ns U (arrivals script t ms S qs)) here
+          ∙ sym (arrivals_append script t ms ns S qs))
           (second.queues (arrivals script t ms (keeping mid.mode.keep old) qs) (first.queues qs ready));
-      keeps = second.keeps ∙ ap (λ (b : Bool). b && is_deathless (tell t ns (keeping keep mid))) first.keeps ∙ and_assoc old.mode.keep (is_deathless (tell t ms (keeping mid.mode.keep old))) (is_deathless (tell t ns (keeping keep mid))) ∙ sym (ap (λ (b : Bool). old.mode.keep && b) deaths);
+      keeps =
+          second.keeps
+          ∙ ap (λ (b : Bool). b && is_deathless (tell t ns (keeping keep mid))) first.keeps
+          ∙ and_assoc old.mode.keep (is_deathless (tell t ms (keeping mid.mode.keep old)))
+          (is_deathless (tell t ns (keeping keep mid)))
+          ∙ sym (ap (λ (b : Bool). old.mode.keep && b) deaths);
     }
 
 -- the counts are still those of the state, and what threads use is noted still
-still_agree : {W N : Type 0} {notes : Notes} (t : ObjNo) (m : Move) (old new : Tables W N) → Agrees old.objects.counts (state_of old) → RefsMove (chosen_state old new) (moved t m (chosen_state old new)) (told m (chosen_state old new)) → IsMovedTo notes t m old new → Agrees new.objects.counts (state_of new)
+still_agree : {W N : Type 0} {notes : Notes} (t : ObjNo) (m : Move) (old new : Tables W N)
+    → Agrees old.objects.counts (state_of old)
+    → RefsMove (chosen_state old new) (moved t m (chosen_state old new)) (told m (chosen_state old new))
+    → IsMovedTo notes t m old new → Agrees new.objects.counts (state_of new)
 still_agree t m old new agree refs is o =
     let S = chosen_state old new in
     let was = agree o in
@@ -193,11 +230,14 @@ none_dead (Pay (Sweep o)) S none = refl
 none_dead m S none = refl
 
 -- the choice that a move leaves is still open where it tells of no death
-keeps_closed : (dying : Bool) (h : Holder) (o : ObjNo) (mode : Mode) → (mode_after (if dying then Some o else None) mode).keep ≡ (mode.keep && is_deathless (closed_effects dying h o ++ []))
+keeps_closed : (dying : Bool) (h : Holder) (o : ObjNo) (mode : Mode)
+    → (mode_after (if dying then Some o else None) mode).keep
+    ≡ (mode.keep && is_deathless (closed_effects dying h o ++ []))
 keeps_closed true h o mode = nothing_kept mode.keep
 keeps_closed false h o mode = own_choice mode.keep
 
-keeps_by : (script : Script) (t : ObjNo) (m : Move) (S : State) (mode : Mode) → (mode_after (dead_by m S) mode).keep ≡ (mode.keep && is_deathless (told m S ++ []))
+keeps_by : (script : Script) (t : ObjNo) (m : Move) (S : State) (mode : Mode)
+    → (mode_after (dead_by m S) mode).keep ≡ (mode.keep && is_deathless (told m S ++ []))
 keeps_by script t (Lose h o) S mode = keeps_closed (dies S o) h o mode
 keeps_by script t (Pay (Close h o)) S mode = keeps_closed (dies S o) h o mode
 keeps_by script t (Pay (Sweep o)) S mode = own_choice mode.keep
@@ -209,12 +249,21 @@ alive_same (Pay (Close h o)) keep S = refl
 alive_same (Pay (Sweep o)) keep S = refl
 alive_same m keep S = refl
 
-pub told_both : {W N : Type 0} (m : Move) (old new : Tables W N) → told_alive m (state_of old) ++ dead_told (dead_by m (chosen_state old new)) ≡ told m (chosen_state old new)
-told_both m old new = ap (λ (l : List Effect). l ++ dead_told (dead_by m (chosen_state old new))) (sym (alive_same m new.mode.keep (state_of old))) ∙ sym (told_dead m (chosen_state old new))
+pub told_both : {W N : Type 0} (m : Move) (old new : Tables W N)
+    → told_alive m (state_of old) ++ dead_told (dead_by m (chosen_state old new)) ≡ told m (chosen_state old new)
+told_both m old new =
+    ap (λ (l : List Effect). l ++ dead_told (dead_by m (chosen_state old new)))
+    (sym (alive_same m new.mode.keep (state_of old)))
+    ∙ sym (told_dead m (chosen_state old new))
 
 -- one move
-pub performed_one : {W N : Type 0} {notes : Notes} (script : Script) (t : ObjNo) (m : Move) (old new : Tables W N) (before between after : Ready) (was : List Effect) → MoveRuns script t m (chosen_state old new) → IsMovedTo notes t m old new → ((rank : ObjNo → ℕ) → Follow rank (taken_out m) before between)
-    → Follow (priority_of (state_of new)) (arrive script (state_of new) (touched t m)) between after → IsPerformed script t (m ∷ []) (state_of old) (state_of new) before after was (was ++ told m (chosen_state old new))
+pub performed_one : {W N : Type 0} {notes : Notes} (script : Script) (t : ObjNo) (m : Move) (old new : Tables W N)
+    (before between after : Ready) (was : List Effect)
+    → MoveRuns script t m (chosen_state old new) → IsMovedTo notes t m old new
+    → ((rank : ObjNo → ℕ) → Follow rank (taken_out m) before between)
+    → Follow (priority_of (state_of new)) (arrive script (state_of new) (touched t m)) between after
+    → IsPerformed script t (m ∷ []) (state_of old) (state_of new) before after was
+    (was ++ told m (chosen_state old new))
 performed_one script t m old new before between after was goes is out follow =
     let S = chosen_state old new in
     record {
@@ -222,14 +271,16 @@ performed_one script t m old new before between after was goes is out follow =
       told = ap (λ (l : List Effect). was ++ l) (sym (append-nil (told m S)));
       queues = λ qs ready.
           let left = taken_out m qs in
-          let ranks : (u : ObjNo) → is_listed left u ≡ true → priority_of (state_of new) u ≡ priority_of S u = λ u listed. ap (λ (U : State). priority_of U u) is.state ∙ goes.ranks u (taken_unset m qs u listed) in
+          let ranks : (u : ObjNo) → is_listed left u ≡ true → priority_of (state_of new) u ≡ priority_of S u =
+          λ u listed. ap (λ (U : State). priority_of U u) is.state ∙ goes.ranks u (taken_unset m qs u listed) in
           subst (λ (U : State). AreReady (priority_of (state_of new)) (arrive script U (touched t m) left) after) is.state
           (follow left (ranks_same (priority_of S) (priority_of (state_of new)) left between ranks (out (priority_of S) qs ready)));
       keeps = ap (λ (mode : Mode). mode.keep) is.mode ∙ keeps_by script t m S old.mode;
     }
 
 -- what the tables keep beside the rows is kept
-pub still_kept : {W N : Type 0} {notes : Notes} (script : Script) (t : ObjNo) (m : Move) (old new : Tables W N) → MoveRuns script t m (chosen_state old new) → AreKept old → IsMovedTo notes t m old new → AreKept new
+pub still_kept : {W N : Type 0} {notes : Notes} (script : Script) (t : ObjNo) (m : Move) (old new : Tables W N)
+    → MoveRuns script t m (chosen_state old new) → AreKept old → IsMovedTo notes t m old new → AreKept new
 still_kept script t m old new goes kept is = record {
   counts = still_agree t m old new kept.counts goes.refs is;
   tied = is.tied;
@@ -237,7 +288,9 @@ still_kept script t m old new goes kept is = record {
 }
 
 -- and others who are out account for the notes
-pub still_sought : {W N : Type 0} (script : Script) (t : ObjNo) (m : Move) (old new : Tables W N) → MoveRuns script t m (chosen_state old new) → IsMoved t m old new → AreSoughtBeside t old.objects.notes (state_of old) → AreSoughtBeside t new.objects.notes (state_of new)
+pub still_sought : {W N : Type 0} (script : Script) (t : ObjNo) (m : Move) (old new : Tables W N)
+    → MoveRuns script t m (chosen_state old new) → IsMoved t m old new
+    → AreSoughtBeside t old.objects.notes (state_of old) → AreSoughtBeside t new.objects.notes (state_of new)
 still_sought script t m old new goes is sought o noted =
     let S = chosen_state old new in
     let was = sought o (subst (λ (notes : Notes). HasNoteOf notes o.0) is.notes noted) in
@@ -252,7 +305,8 @@ still_sought script t m old new goes is sought o noted =
     )
 
 -- on the way: some of the moves were made, and the rest aren't yet
-pub record OnTheWay (script : Script) (t : ObjNo) (ms : List Move) (old : State) (before : Ready) (was : List Effect) (rest : List Move) (S : State) (r : Ready) (effects : List Effect) : Type 0 where
+pub record OnTheWay (script : Script) (t : ObjNo) (ms : List Move) (old : State) (before : Ready) (was : List Effect)
+    (rest : List Move) (S : State) (r : Ready) (effects : List Effect) : Type 0 where
   pub made : List Move
   pub performed : IsPerformed script t made old S before r was effects
   pub whole : made ++ rest ≡ ms
@@ -262,30 +316,37 @@ pub way_begins : (script : Script) (t : ObjNo) (ms : List Move) (S : State) (r :
 way_begins script t ms S r was = record { made = []; performed = performed_none script t S r was; whole = refl }
 
 -- what the whole list asks, of a move on the way and of the choice that it leaves
-module _ (script : Script) (t : ObjNo) (ms : List Move) (old : State) (before : Ready) (was : List Effect) (m : Move) (rest : List Move) (S : State) (r : Ready) (effects : List Effect) (once : total closing_bit ms ≤ 1) (h : OnTheWay script t ms old before was (m ∷ rest) S r effects) where
+module _ (script : Script) (t : ObjNo) (ms : List Move) (old : State) (before : Ready) (was : List Effect) (m : Move)
+    (rest : List Move) (S : State) (r : Ready) (effects : List Effect) (once : total closing_bit ms ≤ 1)
+    (h : OnTheWay script t ms old before was (m ∷ rest) S r effects) where
   once_here : total closing_bit h.made + (closing_bit m + total closing_bit rest) ≤ 1
   once_here = let all = ap (total closing_bit) h.whole in let sum = closes_append h.made (m ∷ rest) in omega arith
 
   way_comes : (keep : Bool) → (closing_bit m ≡ 0 → keep ≡ S.mode.keep) → ComesTo script t h.made old S keep
-  way_comes keep leaves = comes_to script t h.made old S keep h.performed.state (elim (cases_lt 0 (closing_bit m)) as (λ _. (total closing_bit h.made ≡ 0) ⊎ (keep ≡ S.mode.keep)) [
-    | inl some ↦ inl (let few = once_here in omega arith)
-    | inr none ↦ inr (leaves (omega arith))
-  ])
+  way_comes keep leaves =
+      comes_to script t h.made old S keep h.performed.state
+      (elim (cases_lt 0 (closing_bit m)) as (λ _. (total closing_bit h.made ≡ 0) ⊎ (keep ≡ S.mode.keep)) [
+        | inl some ↦ inl (let few = once_here in omega arith)
+        | inr none ↦ inr (leaves (omega arith))
+      ])
 
   -- it goes through
-  pub way_goes : ((keep : Bool) → MovesGo script t ms (keeping keep old)) → (keep : Bool) → (closing_bit m ≡ 0 → keep ≡ S.mode.keep) → MoveGoes script t m (keeping keep S)
+  pub way_goes : ((keep : Bool) → MovesGo script t ms (keeping keep old)) → (keep : Bool)
+      → (closing_bit m ≡ 0 → keep ≡ S.mode.keep) → MoveGoes script t m (keeping keep S)
   way_goes go keep leaves =
       let all = subst (λ (l : List Move). MovesGo script t l (keeping keep old)) (sym h.whole) (go keep) in
       subst (MoveGoes script t m) (way_comes keep leaves).moves (moves_part script t h.made (m ∷ rest) (keeping keep old) all).1.0
 
   -- there is room for what it tells
-  pub way_few : ((keep : Bool) → length was + length (tell t ms (keeping keep old)) ≤ 4) → (keep : Bool) → (closing_bit m ≡ 0 → keep ≡ S.mode.keep) → length effects + length (told m (keeping keep S)) ≤ 4
+  pub way_few : ((keep : Bool) → length was + length (tell t ms (keeping keep old)) ≤ 4) → (keep : Bool)
+      → (closing_bit m ≡ 0 → keep ≡ S.mode.keep) → length effects + length (told m (keeping keep S)) ≤ 4
   way_few few keep leaves =
       let comes = way_comes keep leaves in
       let U = keeping keep old in
       let T = perform t h.made U in
       let most = few keep in
-      let all : length (tell t h.made U ++ tell t (m ∷ rest) T) ≡ length (tell t ms U) = ap length (sym (tell_append t h.made (m ∷ rest) U)) ∙ ap (λ (l : List Move). length (tell t l U)) h.whole in
+      let all : length (tell t h.made U ++ tell t (m ∷ rest) T) ≡ length (tell t ms U) =
+      ap length (sym (tell_append t h.made (m ∷ rest) U)) ∙ ap (λ (l : List Move). length (tell t l U)) h.whole in
       let outer = length-append (tell t h.made U) (tell t (m ∷ rest) T) in
       let inner = length-append (told m T) (tell t rest (moved t m T)) in
       let here : length (told m (keeping keep S)) ≡ length (told m T) = ap (λ (V : State). length (told m V)) (sym comes.moves) in
@@ -297,18 +358,27 @@ module _ (script : Script) (t : ObjNo) (ms : List Move) (old : State) (before : 
   pub way_may : old.mode.keep ≡ old.mode.shared → closing_bit m ≡ 1 → S.mode.keep ≡ S.mode.shared
   way_may free closes =
       let none : total closing_bit h.made ≡ 0 = let few = once_here in omega arith in
-      unchosen script t h.made old S before r was effects none h.performed ∙ free ∙ sym (ap (λ (U : State). U.mode.shared) h.performed.state ∙ ap (λ (mode : Mode). mode.shared) (mode-perform (keeping S.mode.keep old) t h.made))
+      unchosen script t h.made old S before r was effects none h.performed
+      ∙ free
+      ∙ sym (ap (λ (U : State). U.mode.shared) h.performed.state
+      ∙ ap (λ (mode : Mode). mode.shared) (mode-perform (keeping S.mode.keep old) t h.made))
 
   -- it is made
-  pub way_goes_on : (new : State) (after : Ready) (more : List Effect) → IsPerformed script t (m ∷ []) S new r after effects more → OnTheWay script t ms old before was rest new after more
+  pub way_goes_on : (new : State) (after : Ready) (more : List Effect)
+      → IsPerformed script t (m ∷ []) S new r after effects more
+      → OnTheWay script t ms old before was rest new after more
   way_goes_on new after more next = record {
     made = h.made ++ m ∷ [];
-    performed = performed_then script t h.made (m ∷ []) old S new before r after was effects more (let few = once_here in let sum = closes_append h.made (m ∷ []) in omega arith) h.performed next;
+    performed =
+        performed_then script t h.made (m ∷ []) old S new before r after was effects more
+        (let few = once_here in let sum = closes_append h.made (m ∷ []) in omega arith) h.performed next;
     whole = append_assoc h.made (m ∷ []) rest ∙ h.whole;
   }
 
 -- the same of several moves on the way, where none of the list gives a reference up
-module _ (script : Script) (t : ObjNo) (ms : List Move) (old : State) (before : Ready) (was : List Effect) (ns rest : List Move) (S : State) (r : Ready) (effects : List Effect) (none : total closing_bit ms ≡ 0) (h : OnTheWay script t ms old before was (ns ++ rest) S r effects) where
+module _ (script : Script) (t : ObjNo) (ms : List Move) (old : State) (before : Ready) (was : List Effect)
+    (ns rest : List Move) (S : State) (r : Ready) (effects : List Effect) (none : total closing_bit ms ≡ 0)
+    (h : OnTheWay script t ms old before was (ns ++ rest) S r effects) where
   none_made : total closing_bit h.made ≡ 0
   none_made = let all = ap (total closing_bit) h.whole in let sum = closes_append h.made (ns ++ rest) in omega arith
 
@@ -321,13 +391,15 @@ module _ (script : Script) (t : ObjNo) (ms : List Move) (old : State) (before : 
       let later = (moves_part script t h.made (ns ++ rest) (keeping keep old) all).1 in
       (moves_part script t ns rest (keeping keep S) (subst (MovesGo script t (ns ++ rest)) (part_comes keep).moves later)).0
 
-  pub part_few : ((keep : Bool) → length was + length (tell t ms (keeping keep old)) ≤ 4) → (keep : Bool) → length effects + length (tell t ns (keeping keep S)) ≤ 4
+  pub part_few : ((keep : Bool) → length was + length (tell t ms (keeping keep old)) ≤ 4) → (keep : Bool)
+      → length effects + length (tell t ns (keeping keep S)) ≤ 4
   part_few few keep =
       let comes = part_comes keep in
       let U = keeping keep old in
       let T = perform t h.made U in
       let most = few keep in
-      let all : length (tell t h.made U ++ tell t (ns ++ rest) T) ≡ length (tell t ms U) = ap length (sym (tell_append t h.made (ns ++ rest) U)) ∙ ap (λ (l : List Move). length (tell t l U)) h.whole in
+      let all : length (tell t h.made U ++ tell t (ns ++ rest) T) ≡ length (tell t ms U) =
+      ap length (sym (tell_append t h.made (ns ++ rest) U)) ∙ ap (λ (l : List Move). length (tell t l U)) h.whole in
       let outer = length-append (tell t h.made U) (tell t (ns ++ rest) T) in
       let split = ap length (tell_append t ns rest T) in
       let inner = length-append (tell t ns T) (tell t rest (perform t ns T)) in
@@ -336,15 +408,21 @@ module _ (script : Script) (t : ObjNo) (ms : List Move) (old : State) (before : 
       let sum = length-append was (tell t h.made U) in
       omega arith
 
-  pub part_goes_on : (new : State) (after : Ready) (more : List Effect) → IsPerformed script t ns S new r after effects more → OnTheWay script t ms old before was rest new after more
+  pub part_goes_on : (new : State) (after : Ready) (more : List Effect)
+      → IsPerformed script t ns S new r after effects more → OnTheWay script t ms old before was rest new after more
   part_goes_on new after more next = record {
     made = h.made ++ ns;
-    performed = performed_then script t h.made ns old S new before r after was effects more (let all = ap (total closing_bit) h.whole in let sum = closes_append h.made (ns ++ rest) in let part = closes_append ns rest in let here = closes_append h.made ns in omega arith) h.performed next;
+    performed =
+        performed_then script t h.made ns old S new before r after was effects more
+        (let all = ap (total closing_bit) h.whole in let sum = closes_append h.made (ns ++ rest) in
+        let part = closes_append ns rest in let here = closes_append h.made ns in omega arith) h.performed next;
     whole = append_assoc h.made ns rest ∙ h.whole;
   }
 
 -- after the last
-pub way_ends : (script : Script) (t : ObjNo) (ms : List Move) (old S : State) (before r : Ready) (was effects : List Effect) → OnTheWay script t ms old before was [] S r effects → IsPerformed script t ms old S before r was effects
+pub way_ends : (script : Script) (t : ObjNo) (ms : List Move) (old S : State) (before r : Ready)
+    (was effects : List Effect)
+    → OnTheWay script t ms old before was [] S r effects → IsPerformed script t ms old S before r was effects
 way_ends script t ms old S before r was effects h =
     subst (λ (l : List Move). IsPerformed script t l old S before r was effects) (sym (append-nil h.made) ∙ h.whole) h.performed
 
@@ -355,14 +433,18 @@ pub record Left (rank : ObjNo → ℕ) (script : Script) (S : State) (t : ObjNo)
   pub ready : AreReady rank now r
   pub others : leave_along script S t rest now ≡ all
 
-pub left_goes_on : (rank : ObjNo → ℕ) (script : Script) (S : State) (t : ObjNo) (m : Move) (rest : List Move) (r after : Ready) (all : List ObjNo) → Left rank script S t (m ∷ rest) r all → Follow rank (leave script S (touched t m)) r after → Left rank script S t rest after all
+pub left_goes_on : (rank : ObjNo → ℕ) (script : Script) (S : State) (t : ObjNo) (m : Move) (rest : List Move)
+    (r after : Ready) (all : List ObjNo)
+    → Left rank script S t (m ∷ rest) r all → Follow rank (leave script S (touched t m)) r after
+    → Left rank script S t rest after all
 left_goes_on rank script S t m rest r after all h follow = record {
   now = leave script S (touched t m) h.now;
   ready = follow h.now h.ready;
   others = h.others;
 }
 
-pub left_ends : (rank : ObjNo → ℕ) (script : Script) (S : State) (t : ObjNo) (r : Ready) (all : List ObjNo) → Left rank script S t [] r all → AreReady rank all r
+pub left_ends : (rank : ObjNo → ℕ) (script : Script) (S : State) (t : ObjNo) (r : Ready) (all : List ObjNo)
+    → Left rank script S t [] r all → AreReady rank all r
 left_ends rank script S t r all h = subst (λ (l : List ObjNo). AreReady rank l r) h.others h.ready
 
 -- the item whose turn it is, and the rest

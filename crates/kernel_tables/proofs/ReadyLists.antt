@@ -104,27 +104,31 @@ leave_filter script S (u ∷ us) qs = elim (cases_Bool (is_ready script S u)) [
 ]
 
 -- who stays was there, and is ready where it was asked
-leave_listed : (script : Script) (S : State) (us qs : List ObjNo) (t : ObjNo) → is_listed (leave script S us qs) t ≡ true → (is_listed qs t ≡ true) × (is_listed us t ≡ true → is_ready script S t ≡ true)
+leave_listed : (script : Script) (S : State) (us qs : List ObjNo) (t : ObjNo)
+    → is_listed (leave script S us qs) t ≡ true
+    → (is_listed qs t ≡ true) × (is_listed us t ≡ true → is_ready script S t ≡ true)
 leave_listed script S [] qs t h = (h, λ clash. absurd (cc))
-leave_listed script S (u ∷ us) qs t h = elim (cases_Bool (is_ready script S u)) as (λ _. (is_listed qs t ≡ true) × (is_listed (u ∷ us) t ≡ true → is_ready script S t ≡ true)) [
-  | inl ready ↦
-      let rest = leave_listed script S us qs t (rw ready at h) in (
-        rest.0,
-        λ listed. elim (cases_Bool (u.0 == t.0)) as (λ _. is_ready script S t ≡ true) [
-          | inl same ↦ ap (is_ready script S) (sym (one_thread u t same)) ∙ ready
-          | inr other ↦ rest.1 (rw other at listed)
-        ],
-      )
-  | inr done ↦
-      let rest = leave_listed script S us (unlisted u qs) t (rw done at h) in
-      let was = filtered_listed (λ q. not (q.0 == u.0)) qs t rest.0 in (
-        was.0,
-        λ listed. elim (cases_Bool (u.0 == t.0)) as (λ _. is_ready script S t ≡ true) [
-          | inl same ↦ let e = eq-eqb t.0 u.0 (sym (eqb-true u.0 t.0 same)) in let clash : false ≡ true = rw e at was.1 in absurd (cc)
-          | inr other ↦ rest.1 (rw other at listed)
-        ],
-      )
-]
+leave_listed script S (u ∷ us) qs t h =
+    elim (cases_Bool (is_ready script S u)) as
+    (λ _. (is_listed qs t ≡ true) × (is_listed (u ∷ us) t ≡ true → is_ready script S t ≡ true)) [
+      | inl ready ↦
+          let rest = leave_listed script S us qs t (rw ready at h) in (
+            rest.0,
+            λ listed. elim (cases_Bool (u.0 == t.0)) as (λ _. is_ready script S t ≡ true) [
+              | inl same ↦ ap (is_ready script S) (sym (one_thread u t same)) ∙ ready
+              | inr other ↦ rest.1 (rw other at listed)
+            ],
+          )
+      | inr done ↦
+          let rest = leave_listed script S us (unlisted u qs) t (rw done at h) in
+          let was = filtered_listed (λ q. not (q.0 == u.0)) qs t rest.0 in (
+            was.0,
+            λ listed. elim (cases_Bool (u.0 == t.0)) as (λ _. is_ready script S t ≡ true) [
+              | inl same ↦ let e = eq-eqb t.0 u.0 (sym (eqb-true u.0 t.0 same)) in let clash : false ≡ true = rw e at was.1 in absurd (cc)
+              | inr other ↦ rest.1 (rw other at listed)
+            ],
+          )
+    ]
 
 -- whether some of these moves touches a thread
 abbrev pub is_touched : ObjNo → List Move → ObjNo → Bool
@@ -132,7 +136,9 @@ is_touched t [] u = false
 is_touched t (m ∷ ms) u = is_listed (touched t m) u || is_touched t ms u
 
 -- where all others are ready, those that leave along the moves are those that aren't ready
-pub leave_is_filter : (script : Script) (S : State) (t : ObjNo) (ms : List Move) (qs : List ObjNo) → ((u : ObjNo) → is_listed qs u ≡ true → is_touched t ms u ≡ false → is_ready script S u ≡ true) → leave_along script S t ms qs ≡ filter (is_ready script S) qs
+pub leave_is_filter : (script : Script) (S : State) (t : ObjNo) (ms : List Move) (qs : List ObjNo)
+    → ((u : ObjNo) → is_listed qs u ≡ true → is_touched t ms u ≡ false → is_ready script S u ≡ true)
+    → leave_along script S t ms qs ≡ filter (is_ready script S) qs
 leave_is_filter script S t [] qs others = sym (filter_all (is_ready script S) qs (λ u listed. others u listed refl))
 leave_is_filter script S t (m ∷ ms) qs others =
     leave_is_filter script S t ms (leave script S (touched t m) qs) (λ u listed apart.

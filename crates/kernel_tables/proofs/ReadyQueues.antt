@@ -36,7 +36,9 @@ thread_of_pair rank (Some q) = refl
 -- the first of the highest queue is the thread that the machine chooses
 pub picked_queued : (rank : ObjNo → ℕ) (qs : List ObjNo) (r : Ready) → AreQueuesOf (pairs rank qs) r → first_of_highest r.queues ≡ first_of_greatest rank qs
 picked_queued rank qs r are =
-    picked_is (pairs rank qs) r are ∙ (ap (λ (found : Option (ObjNo × ℕ)). option_map (λ (x : ObjNo × ℕ). x.0) found) (greatest_map (λ (y : ObjNo × ℕ). y.1) (pair rank) qs) ∙ thread_of_pair rank (first_of_greatest rank qs))
+    picked_is (pairs rank qs) r are
+    ∙ (ap (λ (found : Option (ObjNo × ℕ)). option_map (λ (x : ObjNo × ℕ). x.0) found)
+    (greatest_map (λ (y : ObjNo × ℕ). y.1) (pair rank) qs) ∙ thread_of_pair rank (first_of_greatest rank qs))
 
 -- a thread is among the pairs where it is listed
 paired_listed : (rank : ObjNo → ℕ) → (t : ObjNo) (qs : List ObjNo) → is_paired t (pairs rank qs) ≡ is_listed qs t
@@ -56,8 +58,11 @@ nobody_queued rank n = record {
 }
 
 -- a thread joins
-pub added_queued : (rank : ObjNo → ℕ) → (qs : List ObjNo) (r : Ready) (q : ObjNo) → (rank q) < 64 → AreQueuesOf (pairs rank qs) r → AreQueuesOf (pairs rank (qs ++ q ∷ [])) (added r q (rank q))
-added_queued rank qs r q low are = subst (λ (l : List (ObjNo × ℕ)). AreQueuesOf l (added r q (rank q))) (sym (map-append (pair rank) qs (q ∷ []))) (added_last (pairs rank qs) r q (rank q) low are)
+pub added_queued : (rank : ObjNo → ℕ) → (qs : List ObjNo) (r : Ready) (q : ObjNo) → (rank q) < 64
+    → AreQueuesOf (pairs rank qs) r → AreQueuesOf (pairs rank (qs ++ q ∷ [])) (added r q (rank q))
+added_queued rank qs r q low are =
+    subst (λ (l : List (ObjNo × ℕ)). AreQueuesOf l (added r q (rank q))) (sym (map-append (pair rank) qs (q ∷ [])))
+    (added_last (pairs rank qs) r q (rank q) low are)
 
 -- a thread leaves
 pairs_without : (rank : ObjNo → ℕ) → (t : ObjNo) (qs : List ObjNo) → pairs rank (filter (λ q. not (q.0 == t.0)) qs) ≡ unlisted t (pairs rank qs)
@@ -68,8 +73,11 @@ pairs_without rank t (q ∷ qs) =
       | inr other ↦ rw other (ap (λ (l : List (ObjNo × ℕ)). pair rank q ∷ l) (pairs_without rank t qs))
     ]
 
-pub removed_queued : (rank : ObjNo → ℕ) → (qs : List ObjNo) (r : Ready) (t : ObjNo) → AreQueuesOf (pairs rank qs) r → AreQueuesOf (pairs rank (filter (λ q. not (q.0 == t.0)) qs)) (removed r t)
-removed_queued rank qs r t are = subst (λ (l : List (ObjNo × ℕ)). AreQueuesOf l (removed r t)) (sym (pairs_without rank t qs)) (removed_unlisted (pairs rank qs) r t are)
+pub removed_queued : (rank : ObjNo → ℕ) → (qs : List ObjNo) (r : Ready) (t : ObjNo) → AreQueuesOf (pairs rank qs) r
+    → AreQueuesOf (pairs rank (filter (λ q. not (q.0 == t.0)) qs)) (removed r t)
+removed_queued rank qs r t are =
+    subst (λ (l : List (ObjNo × ℕ)). AreQueuesOf l (removed r t)) (sym (pairs_without rank t qs))
+    (removed_unlisted (pairs rank qs) r t are)
 
 -- what is found is listed
 pub found_listed : (rank : ObjNo → ℕ) → (p : ℕ) (qs : List ObjNo) (q : ObjNo) → find (λ x. (rank x) == p) qs ≡ Some q → is_listed qs q ≡ true
@@ -90,7 +98,9 @@ other_thread x q xs none some =
     let at : is_listed xs x ≡ is_listed xs q = ap (λ (n : ℕ). list_any (λ (y : ObjNo). y.0 == n) xs) (eqb-true x.0 q.0 same) in cc)
 
 -- the first of a priority gets a new arrival
-behind_is : (rank : ObjNo → ℕ) → (p : ℕ) (qs : List ObjNo) (q : ObjNo) → AreApart qs → find (λ x. (rank x) == p) qs ≡ Some q → pairs rank (filter (λ x. not (x.0 == q.0)) qs ++ q ∷ []) ≡ rearrived p (pairs rank qs)
+behind_is : (rank : ObjNo → ℕ) → (p : ℕ) (qs : List ObjNo) (q : ObjNo) → AreApart qs
+    → find (λ x. (rank x) == p) qs ≡ Some q
+    → pairs rank (filter (λ x. not (x.0 == q.0)) qs ++ q ∷ []) ≡ rearrived p (pairs rank qs)
 behind_is rank p [] q once is = absurd (cc)
 behind_is rank p (x ∷ xs) q once is =
     elim (cases_Bool ((rank x) == p)) [
@@ -99,14 +109,16 @@ behind_is rank p (x ∷ xs) q once is =
           let same : x ≡ q = cc in
           let rest : pairs rank (filter (λ z. not (z.0 == x.0)) xs ++ x ∷ []) ≡ pairs rank xs ++ pair rank x ∷ [] =
           ap (λ (l : List ObjNo). pairs rank (l ++ x ∷ [])) (without_unlisted x xs once.0) ∙ map-append (pair rank) xs (x ∷ []) in
-          subst (λ (y : ObjNo). pairs rank (filter (λ z. not (z.0 == y.0)) (x ∷ xs) ++ y ∷ []) ≡ rearrived p (pairs rank (x ∷ xs))) same (rw (eq-eqb x.0 x.0 refl, here) rest)
+          subst (λ (y : ObjNo). pairs rank (filter (λ z. not (z.0 == y.0)) (x ∷ xs) ++ y ∷ [])
+          ≡ rearrived p (pairs rank (x ∷ xs))) same (rw (eq-eqb x.0 x.0 refl, here) rest)
       | inr there ↦
           let rest : find (λ y. (rank y) == p) xs ≡ Some q = rw there at is in
           let other = other_thread x q xs once.0 (found_listed rank p xs q rest) in
           rw (other, there) (ap (λ (l : List (ObjNo × ℕ)). pair rank x ∷ l) (behind_is rank p xs q once.1 rest))
     ]
 
-found_ranged : (rank : ObjNo → ℕ) → (p : ℕ) (qs : List ObjNo) (q : ObjNo) → All (λ x. x.1 < 64) (pairs rank qs) → find (λ x. (rank x) == p) qs ≡ Some q → (rank q) < 64
+found_ranged : (rank : ObjNo → ℕ) → (p : ℕ) (qs : List ObjNo) (q : ObjNo) → All (λ x. x.1 < 64) (pairs rank qs)
+    → find (λ x. (rank x) == p) qs ≡ Some q → (rank q) < 64
 found_ranged rank p [] q ranged is = absurd (cc)
 found_ranged rank p (x ∷ xs) q ranged is =
     let P : ObjNo × ℕ → Type 0 = λ y. y.1 < 64 in
@@ -120,7 +132,8 @@ found_ranged rank p (x ∷ xs) q ranged is =
     ]
 
 -- the priority of the chosen thread is one of the 64
-pub chosen_ranged : (rank : ObjNo → ℕ) (qs : List ObjNo) (r : Ready) (q : ObjNo) → AreQueuesOf (pairs rank qs) r → first_of_greatest rank qs ≡ Some q → rank q < 64
+pub chosen_ranged : (rank : ObjNo → ℕ) (qs : List ObjNo) (r : Ready) (q : ObjNo) → AreQueuesOf (pairs rank qs) r
+    → first_of_greatest rank qs ≡ Some q → rank q < 64
 chosen_ranged rank qs r q are some = found_ranged rank (rank q) qs q are.ranged (chosen_first rank qs q some)
 
 -- the chosen thread is listed
@@ -128,10 +141,13 @@ pub chosen_listed : (rank : ObjNo → ℕ) (qs : List ObjNo) (q : ObjNo) → fir
 chosen_listed rank qs q some = found_listed rank (rank q) qs q (chosen_first rank qs q some)
 
 -- a time slice ends: the queue of the chosen thread's priority turns
-pub turned_queued : (rank : ObjNo → ℕ) (qs : List ObjNo) (r : Ready) (q : ObjNo) → AreApart qs → AreQueuesOf (pairs rank qs) r → first_of_greatest rank qs ≡ Some q → AreQueuesOf (pairs rank (moved_behind qs (Some q))) (rotated r (rank q))
+pub turned_queued : (rank : ObjNo → ℕ) (qs : List ObjNo) (r : Ready) (q : ObjNo) → AreApart qs
+    → AreQueuesOf (pairs rank qs) r → first_of_greatest rank qs ≡ Some q
+    → AreQueuesOf (pairs rank (moved_behind qs (Some q))) (rotated r (rank q))
 turned_queued rank qs r q once are some =
     let is : pairs rank (moved_behind qs (Some q)) ≡ rearrived (rank q) (pairs rank qs) = behind_is rank (rank q) qs q once (chosen_first rank qs q some) in
-    subst (λ (l : List (ObjNo × ℕ)). AreQueuesOf l (rotated r (rank q))) (sym is) (rotated_last (pairs rank qs) r (rank q) (chosen_ranged rank qs r q are some) are)
+    subst (λ (l : List (ObjNo × ℕ)). AreQueuesOf l (rotated r (rank q))) (sym is)
+    (rotated_last (pairs rank qs) r (rank q) (chosen_ranged rank qs r q are some) are)
 
 -- what is found stands in the queue of its priority
 found_held : (rank : ObjNo → ℕ) → (p : ℕ) (qs : List ObjNo) (q : ObjNo) → find (λ x. (rank x) == p) qs ≡ Some q → holds q (queue_of p (pairs rank qs)) ≡ true
@@ -147,7 +163,8 @@ found_held rank p (x ∷ xs) q is =
     ]
 
 -- and in no other
-held_once : (rank : ObjNo → ℕ) → (p c : ℕ) (qs : List ObjNo) (q : ObjNo) → AreApart qs → find (λ x. (rank x) == p) qs ≡ Some q → holds q (queue_of c (pairs rank qs)) ≡ true → c ≡ p
+held_once : (rank : ObjNo → ℕ) → (p c : ℕ) (qs : List ObjNo) (q : ObjNo) → AreApart qs
+    → find (λ x. (rank x) == p) qs ≡ Some q → holds q (queue_of c (pairs rank qs)) ≡ true → c ≡ p
 held_once rank p c [] q once is held = absurd (cc)
 held_once rank p c (x ∷ xs) q once is held =
     elim (cases_Bool ((rank x) == p)) [
@@ -172,7 +189,8 @@ held_once rank p c (x ∷ xs) q once is held =
     ]
 
 -- the queues say the priority of the chosen thread
-pub chosen_priority : (rank : ObjNo → ℕ) (qs : List ObjNo) (r : Ready) (q : ObjNo) → AreApart qs → AreQueuesOf (pairs rank qs) r → first_of_greatest rank qs ≡ Some q → priority_of r q ≡ Some (rank q)
+pub chosen_priority : (rank : ObjNo → ℕ) (qs : List ObjNo) (r : Ready) (q : ObjNo) → AreApart qs
+    → AreQueuesOf (pairs rank qs) r → first_of_greatest rank qs ≡ Some q → priority_of r q ≡ Some (rank q)
 chosen_priority rank qs r q once are some =
     let found = chosen_first rank qs q some in
     priority_is (pairs rank qs) r q (rank q) are (chosen_ranged rank qs r q are some) (found_held rank (rank q) qs q found)

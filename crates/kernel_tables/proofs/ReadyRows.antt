@@ -15,9 +15,12 @@ no_task false = refl
 -- a number without a row isn't ready
 pub rowless_unready : (script : Script) (S : State) (t : ObjNo) → thread_of S t ≡ None → is_ready script S t ≡ false
 rowless_unready script S t none =
-    ap (λ (x : Option ThreadRow). not (is_waiting_row S.mode.shared x) && not (is_stopped S t) && is_some (task_of_row script S t x)) none ∙ no_task (not (is_stopped S t))
+    ap (λ (x : Option ThreadRow). not (is_waiting_row S.mode.shared x) && not (is_stopped S t) && is_some
+    (task_of_row script S t x)) none
+    ∙ no_task (not (is_stopped S t))
 
-row_of : (script : Script) (S : State) (t : ObjNo) (row : Option ThreadRow) → thread_of S t ≡ row → is_ready script S t ≡ true → (r : ThreadRow) × (thread_of S t ≡ Some r)
+row_of : (script : Script) (S : State) (t : ObjNo) (row : Option ThreadRow) → thread_of S t ≡ row
+    → is_ready script S t ≡ true → (r : ThreadRow) × (thread_of S t ≡ Some r)
 row_of script S t (Some r) is ready = (r, is)
 row_of script S t None is ready =
     let clash : false ≡ true = sym (rowless_unready script S t is) ∙ ready in

@@ -48,7 +48,10 @@ none_at xs i k none at = ap (λ (n : ℕ). get_or (set xs i none) n none) at ∙
 
 module _ (s : Lists) (priorities : List ℕ) where
   -- a row changes, but for its use and its priority
-  pub tied_row : (threads : List (Option ThreadRow)) (t : ObjNo) (f : ThreadRow → ThreadRow) → ((r : ThreadRow) → (f r).uses ≡ r.uses) → ((r : ThreadRow) → (f r).priority ≡ r.priority) → AreTied s.temporary s.objects priorities threads → AreTied s.temporary s.objects priorities (with_row threads t f)
+  pub tied_row : (threads : List (Option ThreadRow)) (t : ObjNo) (f : ThreadRow → ThreadRow)
+      → ((r : ThreadRow) → (f r).uses ≡ r.uses) → ((r : ThreadRow) → (f r).priority ≡ r.priority)
+      → AreTied s.temporary s.objects priorities threads
+      → AreTied s.temporary s.objects priorities (with_row threads t f)
   tied_row threads t f uses ranks h = record {
     uses = noted_row s threads t f uses h.uses;
     ranks = λ u. h.ranks u ∙ sym (rank-with_row threads t f u ranks);
@@ -57,7 +60,9 @@ module _ (s : Lists) (priorities : List ℕ) where
   }
 
   -- a reference is closed
-  pub tied_closed : (threads : List (Option ThreadRow)) (last : Bool) (o : ObjNo) → AreTied s.temporary s.objects priorities threads → AreTied s.temporary s.objects priorities (threads_closed last o threads)
+  pub tied_closed : (threads : List (Option ThreadRow)) (last : Bool) (o : ObjNo)
+      → AreTied s.temporary s.objects priorities threads
+      → AreTied s.temporary s.objects priorities (threads_closed last o threads)
   tied_closed threads last o h = record {
     uses = noted_closed s threads last o h.uses;
     ranks = λ u. h.ranks u ∙ sym (rank-closed threads last o u);
@@ -66,7 +71,9 @@ module _ (s : Lists) (priorities : List ℕ) where
   }
 
   -- a row goes that uses nothing, and its priority with it
-  pub tied_swept : (threads : List (Option ThreadRow)) (o : ObjNo) → use_of_row (get_or threads o.0 None) ≡ None → AreTied s.temporary s.objects priorities threads → AreTied s.temporary s.objects (set priorities o.0 0) (set threads o.0 None)
+  pub tied_swept : (threads : List (Option ThreadRow)) (o : ObjNo) → use_of_row (get_or threads o.0 None) ≡ None
+      → AreTied s.temporary s.objects priorities threads
+      → AreTied s.temporary s.objects (set priorities o.0 0) (set threads o.0 None)
   tied_swept threads o unused h = record {
     uses = noted_swept s threads o unused h.uses;
     ranks = λ u. elim (cases_eq u.0 o.0) [
@@ -78,7 +85,9 @@ module _ (s : Lists) (priorities : List ℕ) where
   }
 
   -- a holder gets a reference, and gives it up
-  pub tied_gained : (S : State) (h : Holder) (o : ObjNo) → MayGain S h → AreTied s.temporary s.objects priorities S.references.threads → let u = use_gained h o s in AreTied u.temporary u.objects priorities (threads_gain h o S.references.threads)
+  pub tied_gained : (S : State) (h : Holder) (o : ObjNo) → MayGain S h
+      → AreTied s.temporary s.objects priorities S.references.threads → let u = use_gained h o s in
+      AreTied u.temporary u.objects priorities (threads_gain h o S.references.threads)
   tied_gained S h o may tied = record {
     uses = noted_gained s S h o may tied.uses;
     ranks = λ u. tied.ranks u ∙ sym (rank-gain S.references.threads h o u);
@@ -87,7 +96,9 @@ module _ (s : Lists) (priorities : List ℕ) where
   }
 
   -- a thread comes back and opens an object
-  pub tied_opened : (S : State) (t o : ObjNo) (part : Part) → UsesNothing (thread_of S t) → AreTied s.temporary s.objects priorities S.references.threads → let u = use_gained (Temp t) o s in AreTied u.temporary u.objects priorities (with_row S.references.threads t (with_opened o part))
+  pub tied_opened : (S : State) (t o : ObjNo) (part : Part) → UsesNothing (thread_of S t)
+      → AreTied s.temporary s.objects priorities S.references.threads → let u = use_gained (Temp t) o s in
+      AreTied u.temporary u.objects priorities (with_row S.references.threads t (with_opened o part))
   tied_opened S t o part may tied = record {
     uses = noted_opened s S t o part may tied.uses;
     ranks = λ u. tied.ranks u ∙ sym (rank-with_row S.references.threads t (with_opened o part) u (λ r. refl));
@@ -95,7 +106,8 @@ module _ (s : Lists) (priorities : List ℕ) where
     ranked = tied.ranked;
   }
 
-  pub tied_lost : (threads : List (Option ThreadRow)) (h : Holder) → AreTied s.temporary s.objects priorities threads → let u = use_lost h s in AreTied u.temporary u.objects priorities (threads_lose h threads)
+  pub tied_lost : (threads : List (Option ThreadRow)) (h : Holder) → AreTied s.temporary s.objects priorities threads
+      → let u = use_lost h s in AreTied u.temporary u.objects priorities (threads_lose h threads)
   tied_lost threads h tied = record {
     uses = noted_lost s threads h tied.uses;
     ranks = λ u. tied.ranks u ∙ sym (rank-lose threads h u);
@@ -104,7 +116,8 @@ module _ (s : Lists) (priorities : List ℕ) where
   }
 
   -- an instruction ends
-  pub tied_ended : (threads : List (Option ThreadRow)) (t : ObjNo) → AreTied s.temporary s.objects priorities threads → let u = with_use s t None in AreTied u.temporary u.objects priorities (with_row threads t advanced)
+  pub tied_ended : (threads : List (Option ThreadRow)) (t : ObjNo) → AreTied s.temporary s.objects priorities threads
+      → let u = with_use s t None in AreTied u.temporary u.objects priorities (with_row threads t advanced)
   tied_ended threads t tied = record {
     uses = noted_ended s threads t tied.uses;
     ranks = λ u. tied.ranks u ∙ sym (rank-with_row threads t advanced u (λ r. refl));
@@ -113,14 +126,19 @@ module _ (s : Lists) (priorities : List ℕ) where
   }
 
   -- a thread gets a priority
-  pub tied_ranked : (threads : List (Option ThreadRow)) (t : ObjNo) (row : ThreadRow) (p : ℕ) → get_or threads t.0 None ≡ Some row → t.0 < length priorities → AreTied s.temporary s.objects priorities threads → AreTied s.temporary s.objects (set priorities t.0 p) (with_row threads t (with_priority p))
+  pub tied_ranked : (threads : List (Option ThreadRow)) (t : ObjNo) (row : ThreadRow) (p : ℕ)
+      → get_or threads t.0 None ≡ Some row → t.0 < length priorities → AreTied s.temporary s.objects priorities threads
+      → AreTied s.temporary s.objects (set priorities t.0 p) (with_row threads t (with_priority p))
   tied_ranked threads t row p is inside tied = record {
     uses = noted_row s threads t (with_priority p) (λ r. refl) tied.uses;
     ranks = λ u. elim (cases_eq t.0 u.0) [
       | inl at ↦
           ap (λ (i : ℕ). get_or (set priorities t.0 p) i 0) (sym at) ∙ (get_or-set_same priorities t.0 p 0 inside
-          ∙ sym (ap priority_of_row (row-here threads t (with_priority p) u.0 at) ∙ ap (λ (x : Option ThreadRow). priority_of_row (option_map (with_priority p) x)) is))
-      | inr apart ↦ get_or-set_other priorities t.0 u.0 p 0 (λ q. apart (sym q)) ∙ (tied.ranks u ∙ sym (ap priority_of_row (row-other threads t (with_priority p) u.0 apart)))
+          ∙ sym (ap priority_of_row (row-here threads t (with_priority p) u.0 at)
+          ∙ ap (λ (x : Option ThreadRow). priority_of_row (option_map (with_priority p) x)) is))
+      | inr apart ↦
+          get_or-set_other priorities t.0 u.0 p 0 (λ q. apart (sym q))
+          ∙ (tied.ranks u ∙ sym (ap priority_of_row (row-other threads t (with_priority p) u.0 apart)))
     ];
     listed = tied.listed;
     ranked = length-set priorities t.0 p ∙ tied.ranked;

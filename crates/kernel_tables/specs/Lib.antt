@@ -7,5 +7,6 @@ pub mod LockMoved
 pub mod ServerMoved
 pub mod Moved
 pub mod ReadyQueues
+pub mod RunsOn
 pub mod CoreView
 pub mod Performed

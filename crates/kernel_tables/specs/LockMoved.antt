@@ -57,8 +57,14 @@ FreeMay S o t (Some w) = CanGive S t o × CanTake S (not_holding S.synchronizati
 abbrev pub CanLock : LockMove → State → Type 0
 CanLock (Start o count) S = IsPlaced S o × (count ≤ 2147483647) × (owner_at S.synchronization.locks o ≡ None) × (waiters_at S.synchronization.locks o ≡ [])
 CanLock (Lock o t answer) S = CanJoin S o t (answer ≡ Waits) × (answer ≡ lock_answer (owner_at S.synchronization.locks o) t) × LocksMay S o t answer
-CanLock (Unlock o t answer) S = IsPlaced S o × (answer ≡ unlock_answer (owner_at S.synchronization.locks o) t (best_waiter (priority_of S) S.synchronization.locks o)) × UnlocksMay S o t answer
-CanLock (Free o t best) S = IsPlaced S o × IsSome (owner_at S.synchronization.locks o) × (best ≡ best_waiter (priority_of S) S.synchronization.locks o) × FreeMay S o t best
+CanLock (Unlock o t answer) S =
+    IsPlaced S o × (answer ≡ unlock_answer (owner_at S.synchronization.locks o) t
+    (best_waiter (priority_of S) S.synchronization.locks o)) × UnlocksMay S o t answer
+CanLock (Free o t best) S =
+    IsPlaced S o × IsSome (owner_at S.synchronization.locks o)
+    × (best ≡ best_waiter (priority_of S) S.synchronization.locks o) × FreeMay S o t best
 CanLock (Leave t) S = t.0 < BOOT_OBJECTS
 CanLock (WaitOn o t) S = CanJoin S o t (count_at S.synchronization.locks o ≡ 0)
-CanLock (Signal o answer) S = IsPlaced S o × (answer ≡ signal_answer (best_waiter (priority_of S) S.synchronization.locks o) (count_at S.synchronization.locks o))
+CanLock (Signal o answer) S =
+    IsPlaced S o × (answer ≡ signal_answer (best_waiter (priority_of S) S.synchronization.locks o)
+    (count_at S.synchronization.locks o))

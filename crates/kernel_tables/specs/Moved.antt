@@ -74,7 +74,9 @@ MayLose _ o = Unit {0}
 
 -- an object can be made, whose name is empty where it is a session, a reference be added to an object that has some, and a thread go on
 abbrev pub CanMake : Kind → List ℕ → Holder → State → Type 0
-CanMake kind name h S = (kept_name kind name ≡ name) × (is_taken kind name S.references.objects ≡ false) × IsNew S × MayGain S h × TakesLeast S.references.handles h
+CanMake kind name h S =
+    (kept_name kind name ≡ name) × (is_taken kind name S.references.objects ≡ false) × IsNew S × MayGain S h
+    × TakesLeast S.references.handles h
 
 abbrev pub CanGain : Holder → ObjNo → State → Type 0
 CanGain h o S = IsReferred S o × MayGain S h × TakesLeast S.references.handles h

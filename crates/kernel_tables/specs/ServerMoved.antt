@@ -18,7 +18,9 @@ use Rattle.kernel_tables.specs.Referred.{HasPlaces, IsReferred}
 -- an object that can become a server or a session: its number is the table's, and it is linked to nothing
 abbrev pub CanServe : ServerMove → State → Type 0
 CanServe (Start o u) S = (o.0 < length S.serving.servers.servers) × IsAlone S.serving.servers o
-CanServe (Join s o slots u) S = (s.0 < length S.serving.servers.servers) × IsAlone S.serving.servers s × IsServer S.serving.servers o × (is_closing S.serving.servers o ≡ false) × IsReferred S o
+CanServe (Join s o slots u) S =
+    (s.0 < length S.serving.servers.servers) × IsAlone S.serving.servers s × IsServer S.serving.servers o
+    × (is_closing S.serving.servers o ≡ false) × IsReferred S o
 CanServe (Close o) S = IsServer S.serving.servers o
 CanServe (CloseAll u) S = All (IsServer S.serving.servers) (owned_by S.serving.owned u)
 CanServe (SetOpen s to) S = IsSession S.serving.servers s

@@ -1,8 +1,10 @@
 //! The kernel's tables: what the moves of actions do to them, and to the queues of ready threads.
 #![tactic(auto)]
 
+mod closings;
 mod copy_moves;
 mod death_moves;
+mod handle_moves;
 mod kernel_core;
 mod kernel_notes;
 mod lock_moves;
@@ -11,6 +13,7 @@ mod note_moves;
 mod reading;
 mod ready;
 mod server_moves;
+mod staying;
 mod tables;
 mod work;
 

@@ -1,86 +1,29 @@
 //! Moves in the kernel's tables: each changes the rows, and the counts move with what it tells.
-ghost use Rattle.std.specs.Prelude.{◌≡◌, ◌+◌, ◌<◌, ◌≤◌, [], None, length, slice_set};
-ghost use Rattle.std.specs.List.{slice_index_or};
-ghost use Rattle.state_rows.specs.HandleSlots.{free_index};
+ghost use Rattle.std.specs.Prelude.{◌≡◌};
 ghost use Rattle.sym_base.specs.declared.number.ObjNo.{ObjNo};
-ghost use Rattle.machine.specs.Moves.{tables_gain, tables_lose, link_of, link_of_row};
-ghost use Rattle.machine.specs.Handles.{with_slot, taken_slot, freed_slot};
-ghost use Rattle.machine.specs.Rows.{thread_of};
-ghost use Rattle.cleanup.specs.Lists.{list_of};
-ghost use Rattle.kernel_tables.specs.Noted.{AreKept, TiedTables};
 ghost use Rattle.readings.specs.Dying.{dead_by};
-ghost use Rattle.kernel_tables.specs.Choosing.{MayClose, closing_bit, mode_after};
-ghost use Rattle.kernel_tables.specs.Moved.{CanMake, CanGain, CanAdvance, CanMove, IsMoved, IsClosed, IsOther, TakesLeast, chosen_state, dead_of};
-ghost use Rattle.table_moves.specs.ObjectsView.{IsHeld};
-ghost use Rattle.kernel_tables.specs.StateOf.{slots_of, state_of};
-ghost use Rattle.table_moves.specs.ThreadRows.{with_threads};
-ghost use Rattle.kern_sync.specs.KernelLocks.{after_priority};
-ghost use Rattle.sym_base.specs.declared.limits.TheConstants.Limits.{BOOT_OBJECTS};
+ghost use Rattle.kernel_tables.specs.Choosing.{MayClose, closing_bit};
+ghost use Rattle.kernel_tables.specs.Moved.{CanMake, CanGain, CanAdvance, CanMove, IsMoved, IsOther, chosen_state};
+ghost use Rattle.kernel_tables.specs.Noted.{AreKept, TiedTables};
+ghost use Rattle.kernel_tables.specs.StateOf.{state_of};
 
+use crate::closings::{lose, pay};
 use crate::copy_moves::move_copy;
 use crate::death_moves::move_death;
+use crate::handle_moves::gain_slot;
 use crate::lock_moves::move_lock;
 use crate::server_moves::{move_message, move_server};
 use crate::tables::Tables;
 use entry_log::{Holder, Part};
-use handles::Handles;
-use kern_sync::KernSync;
-use machine::{Mode, Move, Owed, Waiting};
-use procs::Procs;
-use ref_words::{Closed, RefWords};
-use sym_base::{Items, Kind, Limits, Name, ObjNo, ThreadNo};
+use machine::{Move, Waiting};
+use ref_words::RefWords;
+use sym_base::{Kind, Name, ObjNo, ThreadNo};
 use table_moves::{
-    drop_first_owed, fill, move_logon, move_nano, move_request, note_end, note_gain, note_lost,
-    owe_close, owe_use, owned_gain, owned_lose, server_of, servers_closed, servers_lose,
-    threads_advance, threads_closed, threads_find, threads_gain, threads_go_on, threads_keep,
-    threads_lose, threads_miss, threads_open, threads_set_priority, threads_wait, threads_write,
+    fill, move_logon, move_nano, move_request, note_end, note_gain, owe_use, owned_gain,
+    threads_advance, threads_find, threads_gain, threads_go_on, threads_keep, threads_lose,
+    threads_miss, threads_open, threads_set_priority, threads_wait, threads_write,
     threads_write_message, use_of,
 };
-
-/// The least free place of a handle table takes an object.
-fn take_place(tables: &mut Items<Handles>, owner: ObjNo, object: ObjNo)
-    requires { let slots = slice_index_or (slots_of tables.old) owner.0 [] in free_index slots < length slots }
-    ensures { let slots = slice_index_or (slots_of tables.old) owner.0 [] in slots_of tables.new ≡ with_slot (slots_of tables.old) owner (free_index slots) (taken_slot object) }
-{
-    let at = owner.0 as usize;
-    if at < tables.len() {
-        let _ = tables.get_mut(at).add(object);
-    }
-}
-
-/// A place of a handle table is free.
-fn free_place(tables: &mut Items<Handles>, owner: ObjNo, index: u8)
-    ensures { slots_of tables.new ≡ with_slot (slots_of tables.old) owner index freed_slot }
-{
-    let at = owner.0 as usize;
-    if at < tables.len() {
-        let table = tables.get_mut(at);
-        let _ = table.remove(table.number_at(index));
-    }
-}
-
-/// A holder gets a reference: where it is a handle, that stands in the least free place.
-fn gain_slot(tables: &mut Items<Handles>, holder: Holder, object: ObjNo)
-    requires { TakesLeast (slots_of tables.old) holder }
-    ensures { slots_of tables.new ≡ tables_gain holder object (slots_of tables.old) }
-{
-    match holder {
-        Holder::InProcess(owner, _) => take_place(tables, owner, object),
-        Holder::InThread(owner, _) => take_place(tables, owner, object),
-        _ => {}
-    }
-}
-
-/// A holder gives its reference up: where it is a handle, that goes.
-fn lose_slot(tables: &mut Items<Handles>, holder: Holder)
-    ensures { slots_of tables.new ≡ tables_lose holder (slots_of tables.old) }
-{
-    match holder {
-        Holder::InProcess(owner, index) => free_place(tables, owner, index),
-        Holder::InThread(owner, index) => free_place(tables, owner, index),
-        _ => {}
-    }
-}
 
 /// Makes an object, whose first reference is the holder's.
 fn make<W: RefWords + Drop>(tables: &mut Tables<W>, kind: Kind, name: Name, holder: Holder)
@@ -123,84 +66,6 @@ fn open_found<W: RefWords + Drop>(
     threads_open(&mut tables.procs, thread, object, part);
 }
 
-/// The object, where a close of it was the last.
-fn dead_of(last: bool, object: ObjNo) -> Option<ObjNo>
-    ensures { result ≡ dead_of last object }
-{
-    if last { Some(object) } else { None }
-}
-
-/// A last close leaves nothing to choose.
-fn choose(mode: &mut Mode, last: bool)
-    ensures mode { (o : ObjNo) → mode.new ≡ mode_after (dead_of last o) mode.old }
-    ensures shared { mode.new ≡ record mode.old { keep = mode.new.keep } }
-{
-    if last {
-        mode.keep = false;
-    }
-}
-
-/// A reference to an object with this link of its own goes. With the last one the object dies, and the thread owes the close of the
-/// link, and then the sweep. It answers whether it was the last.
-fn close<W: RefWords + Drop>(
-    tables: &mut Tables<W>,
-    thread: ThreadNo,
-    object: ObjNo,
-    link: Option<ObjNo>,
-) -> bool
-    requires held { IsHeld tables.old.objects object }
-    requires places { length (list_of tables.old.cleanup.duties thread) + 2 ≤ 16 }
-    requires tied { TiedTables tables.old }
-    ensures { IsClosed thread object link result tables.old tables.new }
-{
-    let last = tables.objects.close_ref(object) == Closed::Last;
-    threads_closed(&mut tables.procs, last, object);
-    servers_closed(&mut tables.servers, last, object);
-    owe_close(&mut tables.cleanup, thread, last, object, link);
-    choose(&mut tables.mode, last);
-    last
-}
-
-/// A holder gives its reference up, and the thread owes what a last one leaves to do. An object that died of it is answered.
-fn lose<W: RefWords + Drop>(
-    tables: &mut Tables<W>,
-    thread: ThreadNo,
-    holder: Holder,
-    object: ObjNo,
-) -> Option<ObjNo>
-    requires can { CanMove thread (Move.Lose holder object) (state_of tables.old) }
-    requires kept { AreKept tables.old }
-    requires may { MayClose tables.old.objects.notes (state_of tables.old) }
-    ensures moved { IsMoved thread (Move.Lose holder object) tables.old tables.new }
-    ensures dead { result ≡ dead_by (Move.Lose holder object) (chosen_state tables.old tables.new) }
-{
-    let link = link_of(tables, object);
-    lose_slot(&mut tables.handles, holder);
-    note_lost(&mut tables.cleanup, &tables.procs, holder);
-    owned_lose(&mut tables.cleanup, holder, object);
-    threads_lose(&mut tables.procs, holder);
-    servers_lose(&mut tables.servers, holder);
-    let last = close(tables, thread, object, link);
-    dead_of(last, object)
-}
-
-/// A thread's link to its process.
-fn process_link(procs: &Procs, thread: ThreadNo) -> Option<ObjNo>
-    ensures { result ≡ link_of_row (slice_index_or procs.now.threads thread.0 None) }
-{
-    procs.thread(thread)?.link
-}
-
-/// An object's own reference: a thread's link to its process, or a session's to its server.
-fn link_of<W: RefWords + Drop>(tables: &Tables<W>, object: ObjNo) -> Option<ObjNo>
-    ensures { result ≡ link_of (state_of tables.now) object }
-{
-    match process_link(&tables.procs, object) {
-        Some(process) => Some(process),
-        None => server_of(&tables.servers, object),
-    }
-}
-
 /// The thread goes on to its next instruction, and owes the close of what it used.
 fn advance<W: RefWords + Drop>(tables: &mut Tables<W>, thread: ThreadNo)
     requires can { CanAdvance thread (state_of tables.old) }
@@ -236,65 +101,6 @@ fn set_priority<W: RefWords + Drop>(tables: &mut Tables<W>, thread: ThreadNo, pr
     }
     threads_set_priority(&mut tables.procs, thread, priority);
     tables.locks.set_priority(thread, priority);
-}
-
-/// The thread pays a close that it owes. An object that died of it is answered.
-fn pay_close<W: RefWords + Drop>(
-    tables: &mut Tables<W>,
-    thread: ThreadNo,
-    holder: Holder,
-    object: ObjNo,
-) -> Option<ObjNo>
-    requires can { CanMove thread (Move.Pay (Owed.Close holder object)) (state_of tables.old) }
-    requires kept { AreKept tables.old }
-    requires may { MayClose tables.old.objects.notes (state_of tables.old) }
-    ensures moved { IsMoved thread (Move.Pay (Owed.Close holder object)) tables.old tables.new }
-    ensures dead { result ≡ dead_by (Move.Pay (Owed.Close holder object)) (chosen_state tables.old tables.new) }
-{
-    let link = link_of(tables, object);
-    drop_first_owed(&mut tables.cleanup, thread);
-    let last = close(tables, thread, object, link);
-    dead_of(last, object)
-}
-
-/// The row of a swept thread goes, and its priority among waiters.
-fn sweep_row(procs: &mut Procs, locks: &mut KernSync, object: ObjNo)
-    requires { length locks.old.priorities ≡ BOOT_OBJECTS }
-    ensures rows { procs.new ≡ with_threads procs.old (slice_set procs.old.threads object.0 None) }
-    ensures priorities { locks.new ≡ after_priority locks.old object 0 }
-{
-    procs.remove_thread(object);
-    if (object.0 as usize) < Limits::BOOT_OBJECTS {
-        locks.set_priority(object, 0);
-    }
-}
-
-/// The thread removes the row of a dead object.
-fn pay_sweep<W: RefWords + Drop>(tables: &mut Tables<W>, thread: ThreadNo, object: ObjNo)
-    requires can { CanMove thread (Move.Pay (Owed.Sweep object)) (state_of tables.old) }
-    requires tied { TiedTables tables.old }
-    ensures { IsMoved thread (Move.Pay (Owed.Sweep object)) tables.old tables.new }
-{
-    tables.objects.sweep(object);
-    sweep_row(&mut tables.procs, &mut tables.locks, object);
-    drop_first_owed(&mut tables.cleanup, thread);
-}
-
-/// The thread pays the oldest of what it owes. An object that died of it is answered.
-fn pay<W: RefWords + Drop>(tables: &mut Tables<W>, thread: ThreadNo, what: Owed) -> Option<ObjNo>
-    requires can { CanMove thread (Move.Pay what) (state_of tables.old) }
-    requires kept { AreKept tables.old }
-    requires may { closing_bit (Move.Pay what) ≡ 1 → MayClose tables.old.objects.notes (state_of tables.old) }
-    ensures moved { IsMoved thread (Move.Pay what) tables.old tables.new }
-    ensures dead { result ≡ dead_by (Move.Pay what) (chosen_state tables.old tables.new) }
-{
-    match what {
-        Owed::Close(holder, object) => pay_close(tables, thread, holder, object),
-        Owed::Sweep(object) => {
-            pay_sweep(tables, thread, object);
-            None
-        }
-    }
 }
 
 /// One move by which no reference is given up, in an action of a thread.

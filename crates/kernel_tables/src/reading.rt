@@ -2,6 +2,7 @@
 ghost use Rattle.std.specs.Prelude.{◌≡◌, ℕ, ◌<◌, ◌≤◌, [], None, length, IfSome};
 ghost use Rattle.std.specs.List.{slice_index_or};
 ghost use Rattle.state_rows.specs.HandleSlots.{free_index, slot_at};
+ghost use Rattle.machine.specs.Holdings.{first_used};
 ghost use Rattle.kernel_tables.specs.Noted.{AreKept};
 ghost use Rattle.kernel_tables.specs.StateOf.{slots_of, state_of};
 
@@ -9,7 +10,7 @@ use crate::tables::Tables;
 use crate::work::first_work;
 use handles::Handles;
 use machine::{Holding, NewHandle, Owed, ThreadRow};
-use readings::{Reads, burial_place, first_used, is_one_left};
+use readings::{Reads, burial_place, is_one_left};
 use ref_words::RefWords;
 use script_types::Script;
 use state_rows::{
@@ -37,6 +38,16 @@ fn free_index_of(handles: &Items<Handles>, owner: ObjNo) -> usize
     match handles.as_slice().get(owner.0 as usize) {
         Some(table) => table.free_index(),
         None => 0,
+    }
+}
+
+/// The first handle of the table of a process or a thread, none where there is no such table.
+fn first_handle_of(handles: &Items<Handles>, owner: ObjNo) -> Option<(u8, ObjNo)>
+    ensures { result ≡ first_used 0 (slice_index_or (slots_of handles.now) owner.0 []) }
+{
+    match handles.as_slice().get(owner.0 as usize) {
+        Some(table) => table.first(),
+        None => None,
     }
 }
 
@@ -192,7 +203,7 @@ impl<W: RefWords + Drop> Reads for Tables<W> {
     }
 
     fn first_handle(&self, owner: ObjNo) -> Option<(u8, ObjNo)> {
-        first_used(slots_of(&self.handles, owner))
+        first_handle_of(&self.handles, owner)
     }
 
     fn has_one_left(&self, process: ObjNo) -> bool {

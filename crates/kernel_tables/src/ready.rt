@@ -1,6 +1,6 @@
 //! The queues of ready threads follow the moves of an action: who becomes ready comes, and who has nothing left to
 //! do leaves at the end.
-ghost use Rattle.std.specs.Prelude.{◌≡◌, ℕ, ◌<◌, List};
+ghost use Rattle.std.specs.Prelude.{◌≡◌, ℕ, ◌<◌, List, [], ◌∷◌};
 ghost use Rattle.sym_base.specs.declared.limits.TheConstants.Limits.{BOOT_OBJECTS};
 ghost use Rattle.sym_base.specs.declared.number.ObjNo.{ObjNo};
 ghost use Rattle.machine.specs.Arrivals.{arrive, one_of, taken_out, threads_of, unlisted};
@@ -11,6 +11,7 @@ ghost use Rattle.kernel_tables.specs.Moved.{AreKnown};
 ghost use Rattle.kernel_tables.specs.ReadyQueues.{Follow, pairs, leave, leave_along};
 ghost use Rattle.kernel_tables.specs.StateOf.{state_of};
 
+use crate::staying::is_running;
 use crate::tables::Tables;
 use entry_log::Actor;
 use machine::{Move, Owed, TouchedThreads, touched};
@@ -92,7 +93,25 @@ pub fn take_out(ready: &mut ReadyList, change: &Move)
     }
 }
 
+/// A thread leaves, where a look at what it does next tells that it isn't ready.
+#[inline(never)]
+fn leave_unready<W: RefWords + Drop>(
+    script: &Script,
+    tables: &Tables<W>,
+    ready: &mut ReadyList,
+    thread: ThreadNo,
+)
+    requires { ready.old.threads ≡ BOOT_OBJECTS }
+    ensures size { ready.new.threads ≡ BOOT_OBJECTS }
+    ensures queues { (rank : ObjNo → ℕ) → Follow rank (leave script.now (state_of tables.now) (thread ∷ [])) ready.old ready.new }
+{
+    if !is_ready(script, tables, thread) {
+        take_off(ready, thread);
+    }
+}
+
 /// A thread that isn't ready leaves.
+#[inline(always)]
 fn leave<W: RefWords + Drop>(
     script: &Script,
     tables: &Tables<W>,
@@ -106,9 +125,10 @@ fn leave<W: RefWords + Drop>(
     let Some(thread) = thread else {
         return;
     };
-    if !is_ready(script, tables, thread) {
-        take_off(ready, thread);
+    if is_running(tables, thread) {
+        return;
     }
+    leave_unready(script, tables, ready, thread);
 }
 
 /// Of those that a move touched, who isn't ready leaves.

@@ -19,7 +19,8 @@ next_action-requires-clause-able g c = may_act_able c.args.script.now (state_of 
 pub carry_out-requires-clause-goes : goal.carry_out-requires-clause-goes
 carry_out-requires-clause-goes g c =
     let is = rw c.in-Decided.is at c.next_action.ensures.decided in
-    rw is (rw (← c.core.view_is) at (able_goes c.args.script.now c.args.core.now.state c.args.thread c.requires.runs.shaped c.requires.runs.rows c.requires.able))
+    rw is (rw (← c.core.view_is) at (able_goes c.args.script.now c.args.core.now.state c.args.thread
+    c.requires.runs.shaped c.requires.runs.rows c.requires.able))
 
 pub run_body-requires-clause-goes : goal.run_body-requires-clause-goes
 run_body-requires-clause-goes g c =
@@ -27,17 +28,21 @@ run_body-requires-clause-goes g c =
     let t = c.args.thread in
     let X = state_of c.core.inside.tables in
     let is : run_body script t X c.in-Runs.body ≡ decision_of script X t = rw c.in-Runs.is at c.next_action.ensures.decided in
-    subst (λ (d : Decision). ActionGoes script t d.moves X) (sym is) (rw (← c.core.view_is) at (able_goes script c.args.core.now.state t c.requires.runs.shaped c.requires.runs.rows c.requires.able))
+    subst (λ (d : Decision). ActionGoes script t d.moves X) (sym is)
+    (rw (← c.core.view_is) at (able_goes script c.args.core.now.state t c.requires.runs.shaped c.requires.runs.rows
+    c.requires.able))
 
 pub reap-requires-clause-dying : goal.reap-requires-clause-dying
 reap-requires-clause-dying g c =
     let X = state_of c.core.inside.tables in
-    may_reap c.args.script.now X c.args.thread (thread_of X c.args.thread) refl (rw (← c.core.view_is) at c.requires.able) (rw c.in-Dies.is at c.next_action.ensures.suits)
+    may_reap c.args.script.now X c.args.thread (thread_of X c.args.thread) refl
+    (rw (← c.core.view_is) at c.requires.able) (rw c.in-Dies.is at c.next_action.ensures.suits)
 
 pub end-requires-clause-may : goal.end-requires-clause-may
 end-requires-clause-may g c =
     let X = state_of c.core.inside.tables in
-    may_end c.args.script.now X c.args.thread (thread_of X c.args.thread) refl (rw (← c.core.view_is) at c.requires.able) (rw c.in-Ends.is at c.next_action.ensures.suits)
+    may_end c.args.script.now X c.args.thread (thread_of X c.args.thread) refl
+    (rw (← c.core.view_is) at c.requires.able) (rw c.in-Ends.is at c.next_action.ensures.suits)
 
 pub bury-requires-clause-may : goal.bury-requires-clause-may
 bury-requires-clause-may g c = record { able = rw (← c.core.view_is) at c.requires.able; next = rw c.in-Buries.is at c.next_action.ensures.step }
@@ -55,7 +60,9 @@ returns-in-Runs-clause-does g c =
     let t = c.args.thread in
     let X = state_of c.core.inside.tables in
     let is : run_body script t X c.in-Runs.body ≡ decision_of script X t = rw c.in-Runs.is at c.next_action.ensures.decided in
-    rw (← c.core.view_is) (does_as script t X c.run_body.new.core.state c.core.inside.ready c.run_body.new.core.ready (told_in c.run_body.new.entry) (run_body script t X c.in-Runs.body) (decision_of script X t) is c.run_body.ensures.does)
+    rw (← c.core.view_is) (does_as script t X c.run_body.new.core.state c.core.inside.ready c.run_body.new.core.ready
+    (told_in c.run_body.new.entry) (run_body script t X c.in-Runs.body)
+    (decision_of script X t) is c.run_body.ensures.does)
 
 pub returns-in-Steps-clause-does : goal.returns-in-Steps-clause-does
 returns-in-Steps-clause-does g c = rw (← c.core.view_is) (rw (rw c.in-Steps.is at c.next_action.ensures.decided) at c.step.ensures.does)
@@ -66,7 +73,8 @@ returns-in-Ends-clause-does g c =
     let t = c.args.thread in
     let X = state_of c.core.inside.tables in
     let is : end t ≡ decision_of script X t = rw c.in-Ends.is at c.next_action.ensures.decided in
-    rw (← c.core.view_is) (does_as script t X c.end.new.core.state c.core.inside.ready c.end.new.core.ready (told_in c.end.new.entry) (end t) (decision_of script X t) is c.end.ensures.does)
+    rw (← c.core.view_is) (does_as script t X c.end.new.core.state c.core.inside.ready c.end.new.core.ready
+    (told_in c.end.new.entry) (end t) (decision_of script X t) is c.end.ensures.does)
 
 pub returns-in-Dies-clause-does : goal.returns-in-Dies-clause-does
 returns-in-Dies-clause-does g c = rw (← c.core.view_is) c.reap.ensures.does

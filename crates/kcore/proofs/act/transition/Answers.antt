@@ -37,10 +37,15 @@ returns-in-Thread-clause-does g c =
     let old = c.args.core.now in
     let new = c.act.new.core in
     let t = c.in-Thread.thread in
-    rw c.in-Thread.is (planned_does script t old.state new.state old.ready new.ready (told_in c.act.new.entry) (λ (S : State). decision_of script S t) (decision-same script old.state t new.state.mode.keep c.requires.runs.shaped c.requires.runs.rows) c.act.ensures.does)
+    rw c.in-Thread.is (planned_does script t old.state new.state old.ready new.ready (told_in c.act.new.entry)
+    (λ (S : State). decision_of script S t)
+    (decision-same script old.state t new.state.mode.keep c.requires.runs.shaped c.requires.runs.rows)
+    c.act.ensures.does)
 
 pub returns-in-Tick-clause-does : goal.returns-in-Tick-clause-does
-returns-in-Tick-clause-does g c = rw c.in-Tick.is (tick_does c.args.script.now c.args.core.now c.tick.new.core (told_in c.tick.new.entry) c.tick.ensures.state c.tick.ensures.queues c.tick.ensures.outcome)
+returns-in-Tick-clause-does g c =
+    rw c.in-Tick.is (tick_does c.args.script.now c.args.core.now c.tick.new.core
+    (told_in c.tick.new.entry) c.tick.ensures.state c.tick.ensures.queues c.tick.ensures.outcome)
 
 pub returns-in-Irq-clause-does : goal.returns-in-Irq-clause-does
 unfolding interrupt
@@ -49,7 +54,10 @@ returns-in-Irq-clause-does g c =
     let old = c.args.core.now in
     let new = c.interrupt.new.core in
     let k = c.in-Irq.number in
-    rw c.in-Irq.is (planned_does script supervisor old.state new.state old.ready new.ready (told_in c.interrupt.new.entry) (λ (S : State). decision_by script supervisor S (Runs (Interrupt k))) (body-same script supervisor old.state new.state.mode.keep (Interrupt k) (sane-supervisor script old.state c.requires.runs.rows)) c.interrupt.ensures.does)
+    rw c.in-Irq.is (planned_does script supervisor old.state new.state old.ready new.ready
+    (told_in c.interrupt.new.entry) (λ (S : State). decision_by script supervisor S (Runs (Interrupt k)))
+    (body-same script supervisor old.state new.state.mode.keep (Interrupt k)
+    (sane-supervisor script old.state c.requires.runs.rows)) c.interrupt.ensures.does)
 
 pub returns-in-Idfc-clause-does : goal.returns-in-Idfc-clause-does
 unfolding immediate
@@ -57,7 +65,11 @@ returns-in-Idfc-clause-does g c =
     let script = c.args.script.now in
     let old = c.args.core.now in
     let new = c.immediate.new.core in
-    rw c.in-Idfc.is (planned_does script supervisor old.state new.state old.ready new.ready (told_in c.immediate.new.entry) (λ (S : State). decision_by script supervisor S (immediate_plan script S (next_immediate S.synchronization.deferred))) (plan-same script old.state new.state.mode.keep (next_immediate old.state.synchronization.deferred) c.requires.runs.rows) c.immediate.ensures.does)
+    rw c.in-Idfc.is (planned_does script supervisor old.state new.state old.ready new.ready
+    (told_in c.immediate.new.entry) (λ (S : State). decision_by script supervisor S
+    (immediate_plan script S (next_immediate S.synchronization.deferred)))
+    (plan-same script old.state new.state.mode.keep
+    (next_immediate old.state.synchronization.deferred) c.requires.runs.rows) c.immediate.ensures.does)
 
 pub returns-in-Idle-clause-does : goal.returns-in-Idle-clause-does
-returns-in-Idle-clause-does g c = rw c.in-Idle.is (idle_does c.args.script.now c.args.core.now (told_in c.idle.new.entry) c.idle.ensures.outcome)
+returns-in-Idle-clause-does g c = rw c.in-Idle.is (idle_does c.args.script.now c.args.core.now (told_in c.args.entry.now) c.requires.blank)

@@ -8,7 +8,10 @@ use Rattle.kcore.proofs.Backs.{gone_there, made-like, miss-goes}
 use Rattle.kcore.proofs.back.miss_back.Goals as goal
 
 pub drop_note-requires-clause-gone : goal.drop_note-requires-clause-gone
-drop_note-requires-clause-gone g c = gone_there c.args.core.now.state.references.objects (g.W.RefWords.slip c.args.note).place c.args.object.0 c.requires.runs.rows.references.sized.objects_few c.requires.object c.requires.gone
+drop_note-requires-clause-gone g c =
+    gone_there c.args.core.now.state.references.objects
+    (g.W.RefWords.slip c.args.note).place c.args.object.0 c.requires.runs.rows.references.sized.objects_few
+    c.requires.object c.requires.gone
 
 pub make-requires-clause-goes : goal.make-requires-clause-goes
 make-requires-clause-goes g c =
@@ -19,7 +22,8 @@ make-requires-clause-goes g c =
     let p = (g.W.RefWords.slip c.args.note).place in
     let noted = c.drop_note.ensures.was_out in
     let gone = gone_there old.state.references.objects p c.args.object.0 c.requires.runs.rows.references.sized.objects_few c.requires.object c.requires.gone in
-    let goes = miss-goes script old.state t (record { 0 = p }) mid.decision c.requires.runs.shaped c.requires.runs.rows (c.requires.may.out noted) gone (c.drop_note.ensures.decision ∙ c.requires.decided noted) in
+    let goes = miss-goes script old.state t (record { 0 = p }) mid.decision c.requires.runs.shaped c.requires.runs.rows
+    (c.requires.may.out noted) gone (c.drop_note.ensures.decision ∙ c.requires.decided noted) in
     subst (λ (S : State). ActionGoes script t mid.decision.moves S) (sym c.drop_note.ensures.state) goes
 
 pub make-requires-clause-may : goal.make-requires-clause-may
@@ -28,13 +32,16 @@ make-requires-clause-may g c =
     let mid = c.drop_note.new.self in
     let left = notes_back (g.W.RefWords.slip c.args.note) c.args.core.now.notes in
     let may = c.requires.may.rest c.drop_note.ensures.was_out in
-    subst (λ (n : Notes). MayChoose t n mid.state) (sym c.drop_note.ensures.notes) (subst (λ (S : State). MayChoose t left S) (sym c.drop_note.ensures.state) may)
+    subst (λ (n : Notes). MayChoose t n mid.state) (sym c.drop_note.ensures.notes)
+    (subst (λ (S : State). MayChoose t left S) (sym c.drop_note.ensures.state) may)
 
 pub returns-clause-made : goal.returns-clause-made
 returns-clause-made g c =
     let mid = c.drop_note.new.self in
     let new = c.make.new.self in
-    made-like c.args.script.now c.args.thread mid.decision c.args.core.now.decision mid c.args.core.now new c.make.new.effects c.drop_note.ensures.state c.drop_note.ensures.ready c.drop_note.ensures.decision (was-made c.args.script.now c.args.thread mid.decision mid new c.make.new.effects c.make.ensures.made)
+    made-like c.args.script.now c.args.thread mid.decision c.args.core.now.decision mid c.args.core.now new
+    c.make.new.effects c.drop_note.ensures.state c.drop_note.ensures.ready c.drop_note.ensures.decision
+    (was-made c.args.script.now c.args.thread mid.decision mid new c.make.new.effects c.make.ensures.made)
 
 pub returns-clause-notes : goal.returns-clause-notes
 returns-clause-notes g c = c.make.ensures.made.notes ∙ c.drop_note.ensures.notes

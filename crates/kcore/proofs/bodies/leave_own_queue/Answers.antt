@@ -31,4 +31,7 @@ returns-clause-may g c =
     let S = state_of c.core.inside.tables in
     let notes = c.core.inside.tables.objects.notes in
     let done = rw c.leave_queue.ensures.moves at c.perform.ensures.performed in
-    rw c.perform.ensures.notes (may_after c.args.script.now c.args.thread (leave_queue (state_of c.core.inside.tables) c.args.body) notes S c.perform.new.self.state c.core.inside.ready c.perform.new.self.ready c.args.effects.now c.perform.new.effects (rw (← c.core.view_is) at c.requires.go) (leave_calm (state_of c.core.inside.tables) c.args.body) done (rw (← c.core.view_is) at c.requires.may))
+    rw c.perform.ensures.notes (may_after c.args.script.now c.args.thread
+    (leave_queue (state_of c.core.inside.tables) c.args.body) notes S c.perform.new.self.state c.core.inside.ready
+    c.perform.new.self.ready c.args.effects.now c.perform.new.effects (rw (← c.core.view_is) at c.requires.go)
+    (leave_calm (state_of c.core.inside.tables) c.args.body) done (rw (← c.core.view_is) at c.requires.may))

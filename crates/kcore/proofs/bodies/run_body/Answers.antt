@@ -39,7 +39,8 @@ run_ops-requires-clause-go g c =
     let mid = c.leave_own_queue.new.core in
     let ms = leave_queue old.state c.args.body in
     let none = leave_calm old.state c.args.body in
-    let left = calm_state script t ms old.state mid.state old.ready mid.ready c.args.entry.now.effects c.leave_own_queue.new.effects none c.leave_own_queue.ensures.performed in
+    let left = calm_state script t ms old.state mid.state old.ready mid.ready c.args.entry.now.effects
+    c.leave_own_queue.new.effects none c.leave_own_queue.ensures.performed in
     rw c.ops_of-ops.ensures (ops_go script t ms (ops_of script c.args.body) old.state mid.state none left c.requires.goes.each)
 
 pub run_ops-requires-clause-few : goal.run_ops-requires-clause-few
@@ -52,7 +53,9 @@ run_ops-requires-clause-few g c =
     let none = leave_calm old.state c.args.body in
     let did = rw c.requires.empty at c.leave_own_queue.ensures.performed in
     let left = calm_state script t ms old.state mid.state old.ready mid.ready [] c.leave_own_queue.new.effects none did in
-    rw c.ops_of-ops.ensures (ops_few script t ms (ops_of script c.args.body) old.state mid.state c.leave_own_queue.new.effects none left did.told c.requires.goes.few)
+    rw c.ops_of-ops.ensures (ops_few script t ms
+    (ops_of script c.args.body) old.state mid.state c.leave_own_queue.new.effects none left did.told
+    c.requires.goes.few)
 
 pub run_ops-requires-clause-may : goal.run_ops-requires-clause-may
 run_ops-requires-clause-may g c = c.leave_own_queue.ensures.may
@@ -69,7 +72,8 @@ run_ops-requires-clause-short g c =
     let short = short_body c.args.script.now c.args.body c.requires.shaped in
     let first = c.leave_own_queue.ensures.short in
     let moves = c.as_slice.ensures.moves ∙ (same-moves _ _ c.core.view_is ∙ c.leave_own_queue.ensures.moves) in
-    let made : length c.add_moves.new.made ≡ length (leave_queue c.args.core.now.state c.args.body) = ap length (rw (c.new-made.ensures, moves) at c.add_moves.ensures) in
+    let made : length c.add_moves.new.made ≡ length (leave_queue c.args.core.now.state c.args.body) =
+    ap length (rw (c.new-made.ensures, moves) at c.add_moves.ensures) in
     rw c.ops_of-ops.ensures (omega arith)
 
 -- the moves that were made are those of the body
@@ -87,14 +91,18 @@ returns-clause-does g c =
     let none = leave_calm S c.args.body in
     let first = rw c.requires.empty at c.leave_own_queue.ensures.performed in
     let second = rw c.ops_of-ops.ensures at c.run_ops.ensures.performed in
-    let did = body_performed script t ms ops S mid.state last.state old.ready mid.ready last.ready [] c.leave_own_queue.new.effects c.run_ops.new.effects none first second in
+    let did = body_performed script t ms ops S mid.state last.state old.ready mid.ready last.ready []
+    c.leave_own_queue.new.effects c.run_ops.new.effects none first second in
     let left = calm_state script t ms S mid.state old.ready mid.ready [] c.leave_own_queue.new.effects none first in
     let own = c.as_slice.ensures.moves ∙ (same-moves _ _ c.core.view_is ∙ c.leave_own_queue.ensures.moves) in
-    let noted : c.as_slice-2.result.now ≡ ms ++ ops_moves script t mid.state ops = rw (c.add_moves.ensures, c.new-made.ensures, own, c.ops_of-ops.ensures) at (c.as_slice-2.ensures ∙ c.run_ops.ensures.made) in
+    let noted : c.as_slice-2.result.now ≡ ms ++ ops_moves script t mid.state ops =
+    rw (c.add_moves.ensures, c.new-made.ensures, own, c.ops_of-ops.ensures) at
+    (c.as_slice-2.ensures ∙ c.run_ops.ensures.made) in
     let moves : c.as_slice-2.result.now ≡ d.moves = noted ∙ ap (λ (U : State). ms ++ ops_moves script t U ops) left in
     let follow = rw moves at c.leave_along.ensures.queues in
     let runs = go-run script t d.moves (keeping last.state.mode.keep S) (c.requires.goes.each last.state.mode.keep) in
-    carried_does script t d old last c.leave_along.new.self _ c.run_ops.new.effects runs did c.leave_along.ensures.state follow (rw c.step_of_body-entry.ensures refl)
+    carried_does script t d old last c.leave_along.new.self _ c.run_ops.new.effects runs did c.leave_along.ensures.state
+    follow (rw c.step_of_body-entry.ensures refl)
 
 pub returns-clause-notes : goal.returns-clause-notes
 returns-clause-notes g c = c.leave_along.ensures.notes ∙ c.run_ops.ensures.notes ∙ c.leave_own_queue.ensures.notes

@@ -12,7 +12,9 @@ pub perform-requires-clause-few : goal.perform-requires-clause-few
 perform-requires-clause-few g c = rw c.op_moves.ensures.moves (rw (← c.core.view_is) at c.requires.few)
 
 pub perform-requires-clause-once : goal.perform-requires-clause-once
-perform-requires-clause-once g c = let none = op_calm c.args.script.now (state_of c.core.inside.tables) c.args.op.now in rw c.op_moves.ensures.moves (omega arith)
+perform-requires-clause-once g c =
+    let none = op_calm c.args.script.now (state_of c.core.inside.tables) c.args.op.now in
+    rw c.op_moves.ensures.moves (omega arith)
 
 pub perform-requires-clause-may : goal.perform-requires-clause-may
 perform-requires-clause-may g c = rw (← c.core.view_is) at c.requires.may
@@ -31,4 +33,9 @@ returns-clause-may g c =
     let S = state_of c.core.inside.tables in
     let notes = c.core.inside.tables.objects.notes in
     let done = rw c.op_moves.ensures.moves at c.perform.ensures.performed in
-    rw c.perform.ensures.notes (may_after c.args.script.now c.args.thread (op_moves c.args.script.now (state_of c.core.inside.tables) c.args.op.now) notes S c.perform.new.self.state c.core.inside.ready c.perform.new.self.ready c.args.effects.now c.perform.new.effects (rw (← c.core.view_is) at c.requires.go) (op_calm c.args.script.now (state_of c.core.inside.tables) c.args.op.now) done (rw (← c.core.view_is) at c.requires.may))
+    rw c.perform.ensures.notes (may_after c.args.script.now c.args.thread
+    (op_moves c.args.script.now (state_of c.core.inside.tables) c.args.op.now) notes S c.perform.new.self.state
+    c.core.inside.ready c.perform.new.self.ready c.args.effects.now c.perform.new.effects
+    (rw (← c.core.view_is) at c.requires.go)
+    (op_calm c.args.script.now (state_of c.core.inside.tables) c.args.op.now) done
+    (rw (← c.core.view_is) at c.requires.may))

@@ -11,11 +11,17 @@ returns-in-Some c =
     let old = c.args.procs.now in
     let n = c.args.number.0 in
     let none = none_of (get_or old.processes n None) c.requires.no_process in
-    rw c.in-Some.is (c.add_row.ensures ∙ ap (λ (l : List (Option (List ℕ))). let rows : ProcsRows = record { threads = set old.threads n (Some c.in-Some.row); processes = l } in rows) (sym (ap (set old.processes n) (sym none) ∙ set-get_or old.processes n None)))
+    rw c.in-Some.is (c.add_row.ensures ∙ ap
+    (λ (l : List (Option (List ℕ))). let rows : ProcsRows = record
+    { threads = set old.threads n (Some c.in-Some.row); processes = l } in rows)
+    (sym (ap (set old.processes n) (sym none) ∙ set-get_or old.processes n None)))
 
 pub returns-in-None : goal.returns-in-None
 returns-in-None c =
     let old = c.args.procs.now in
     let n = c.args.number.0 in
     let none = none_of (get_or old.threads n None) c.requires.no_thread in
-    rw c.in-None.is (c.add_process.ensures ∙ ap (λ (l : List (Option ThreadRow)). let rows : ProcsRows = record { threads = l; processes = set old.processes n (Some no_bytes) } in rows) (sym (ap (set old.threads n) (sym none) ∙ set-get_or old.threads n None)))
+    rw c.in-None.is (c.add_process.ensures ∙ ap
+    (λ (l : List (Option ThreadRow)). let rows : ProcsRows = record
+    { threads = l; processes = set old.processes n (Some no_bytes) } in rows)
+    (sym (ap (set old.threads n) (sym none) ∙ set-get_or old.threads n None)))

@@ -7,7 +7,9 @@ use Rattle.kcore.proofs.deaths.bury.Goals as goal
 pub returns-clause-does : goal.returns-clause-does
 returns-clause-does g c =
     let d = decision_of c.args.script.now c.args.core.now.state c.args.thread in
-    c.finish.ensures.does d c.args.core.now (made-in c.args.script.now c.args.thread d c.args.core.now _ _ c.bury.new.effects c.bury.ensures.made (search rules))
+    c.finish.ensures.does d c.args.core.now
+    (made-in c.args.script.now c.args.thread d c.args.core.now _ _ c.bury.new.effects c.bury.ensures.made
+    (search rules))
 
 pub returns-clause-notes : goal.returns-clause-notes
 returns-clause-notes g c = kept-in _ _ _ _ c.finish.ensures.notes c.bury.ensures.made.notes (search rules)

@@ -7,7 +7,8 @@ use Rattle.kcore.proofs.deaths.reap.Goals as goal
 pub carry_out-requires-clause-may : goal.carry_out-requires-clause-may
 carry_out-requires-clause-may g c =
     let same = (rw c.in-NothingLeft.is at c.reap_one.ensures.nothing).0 in
-    may-in-lent c.args.thread c.args.core.now.state _ _ c.args.core.now.notes _ _ (same-state _ _ same) (same-kept _ _ same) (search rules) (search rules) c.requires.may_choose
+    may-in-lent c.args.thread c.args.core.now.state _ _ c.args.core.now.notes _ _ (same-state _ _ same)
+    (same-kept _ _ same) (search rules) (search rules) c.requires.may_choose
 
 pub returns-in-NothingLeft-clause-notes : goal.returns-in-NothingLeft-clause-notes
 returns-in-NothingLeft-clause-notes g c =

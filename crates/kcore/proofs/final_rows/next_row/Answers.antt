@@ -15,7 +15,8 @@ returns-in-Some g c =
     let n = c.loop-number.number in
     let row = c.in-Some.row in
     let left = rows_from_left S n row (slice_get_row c.args.tables.now.objects.rows n row (sym c.in-Some.ensures)) in
-    let last : ℕ → Option Exit → List FinalRow = λ k e. record { object = record { 0 = n }; kind = row.kind; name = row.name; count = k; exit = e } ∷ rows_from S (n + 1) in
+    let last : ℕ → Option Exit → List FinalRow = λ k e. record
+    { object = record { 0 = n }; kind = row.kind; name = row.name; count = k; exit = e } ∷ rows_from S (n + 1) in
     let counted = ap (λ (k : ℕ). last k (exit_of_row (thread_of S (record { 0 = n })))) (sym (c.count.ensures ∙ c.requires.counts (record { 0 = n }))) in
     sym c.loop-number.invariant ∙ left ∙ counted ∙ ap (last c.count.result) (sym c.exit_of.ensures)
 

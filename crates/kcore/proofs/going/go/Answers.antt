@@ -9,8 +9,19 @@ pub transition-requires-clause-empty : goal.transition-requires-clause-empty
 transition-requires-clause-empty g c =
     let history = c.args.history.now.items in
     let at : length c.as_slice-at.result.now ≡ length history = ap length c.as_slice-at.ensures.value in
-    let is = last_is history c.push_reserved.new.self.items c.new_entry.result (length c.as_slice-at.result.now) c.index_mut.result.now c.push_reserved.ensures.items at c.index_mut.ensures.value in
+    let is = last_is history c.push_reserved.new.self.items c.new_entry.result
+    (length c.as_slice-at.result.now) c.index_mut.result.now c.push_reserved.ensures.items at
+    c.index_mut.ensures.value in
     ap (λ (e : Entry). e.effects) (is ∙ c.new_entry.ensures)
+
+pub transition-requires-clause-blank : goal.transition-requires-clause-blank
+transition-requires-clause-blank g c =
+    let history = c.args.history.now.items in
+    let at : length c.as_slice-at.result.now ≡ length history = ap length c.as_slice-at.ensures.value in
+    let is = last_is history c.push_reserved.new.self.items c.new_entry.result
+    (length c.as_slice-at.result.now) c.index_mut.result.now c.push_reserved.ensures.items at
+    c.index_mut.ensures.value in
+    ap (λ (e : Entry). told_in e) (is ∙ c.new_entry.ensures)
 
 pub returns-clause-went : goal.returns-clause-went
 returns-clause-went g c =
@@ -18,8 +29,11 @@ returns-clause-went g c =
     let e = c.transition.new.entry in
     let items = c.push_reserved.new.self.items in
     let at : length c.as_slice-at.result.now ≡ length history = ap length c.as_slice-at.ensures.value in
-    let is = last_is history items c.new_entry.result (length c.as_slice-at.result.now) c.index_mut.result.now c.push_reserved.ensures.items at c.index_mut.ensures.value in
-    let told = told_as c.index_mut.result.now c.new_entry.result e ((length c.as_slice-at.result.now) + 1) c.args.actor _ is c.new_entry.ensures c.transition.ensures.told in
+    let is = last_is history items c.new_entry.result
+    (length c.as_slice-at.result.now) c.index_mut.result.now c.push_reserved.ensures.items at
+    c.index_mut.ensures.value in
+    let told = told_as c.index_mut.result.now c.new_entry.result e
+    ((length c.as_slice-at.result.now) + 1) c.args.actor _ is c.new_entry.ensures c.transition.ensures.told in
     let pushed = last_told history items c.new_entry.result (length c.as_slice-at.result.now) e c.push_reserved.ensures.items at in
     record {
       entry = e;

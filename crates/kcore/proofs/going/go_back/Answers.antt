@@ -26,10 +26,14 @@ returns-clause-went g c =
     let t = c.args.thread in
     let e = c.come_back.new.entry in
     let at = ap length c.as_slice-at.ensures.value in
-    let told = told_as c.new_entry-entry.result c.new_entry-entry.result e ((length c.as_slice-at.result.now) + 1) (Thread t) _ refl c.new_entry-entry.ensures c.come_back.ensures.told in
+    let told = told_as c.new_entry-entry.result c.new_entry-entry.result e ((length c.as_slice-at.result.now) + 1)
+    (Thread t) _ refl c.new_entry-entry.ensures c.come_back.ensures.told in
     record {
       entry = e;
       longer = c.push_reserved.ensures.items;
       told = told ∙ ap (λ (n : ℕ). entry_of (n + 1) (Thread t) (told_in e)) at;
-      does = planned_does script t old.state new.state old.ready new.ready (told_in e) (λ (S : State). decision_of script S t) (decision-same script old.state t new.state.mode.keep c.requires.runs.shaped c.requires.runs.rows) c.come_back.ensures.does;
+      does =
+          planned_does script t old.state new.state old.ready new.ready (told_in e) (λ (S : State). decision_of script S t)
+          (decision-same script old.state t new.state.mode.keep c.requires.runs.shaped c.requires.runs.rows)
+          c.come_back.ensures.does;
     }

@@ -14,6 +14,9 @@ returns-clause-does g c = λ d old made.
     let mid = c.args.core.now in
     let new = c.leave.new.self in
     let effects = c.args.entry.now.effects in
-    let follow = λ (rank : ObjNo → ℕ). subst (λ (x : Decision). Follow rank (leave_along script mid.state t x.moves) mid.ready new.ready) made.decided (c.leave.ensures.queues rank) in
+    let follow = λ (rank : ObjNo → ℕ). subst
+    (λ (x : Decision). Follow rank (leave_along script mid.state t x.moves) mid.ready new.ready) made.decided
+    (c.leave.ensures.queues rank) in
     let named = λ (x : Decision). let o : Outcome = record { step = x.step; effects = effects; answer = x.answer } in o in
-    carried_does script t d old mid new _ effects made.runs made.performed c.leave.ensures.state follow (ap named (same-decision _ _ c.core.view_is ∙ c.leave.ensures.decision ∙ made.decided))
+    carried_does script t d old mid new _ effects made.runs made.performed c.leave.ensures.state follow
+    (ap named (same-decision _ _ c.core.view_is ∙ c.leave.ensures.decision ∙ made.decided))

@@ -13,5 +13,8 @@ returns g c =
       counts = death_counts old.objects.counts change;
       mode = refl;
       notes = refl;
-      tied = rw (c.move_row.ensures, c.owe_burial.ensures) (tied_row old.cleanup old.locks.priorities old.procs.threads (death_thread change) (death_row change) (death_uses change) (death_priority change) c.requires.tied);
+      tied =
+          rw (c.move_row.ensures, c.owe_burial.ensures)
+          (tied_row old.cleanup old.locks.priorities old.procs.threads (death_thread change) (death_row change)
+          (death_uses change) (death_priority change) c.requires.tied);
     }

@@ -15,7 +15,8 @@ use Rattle.kernel_tables.proofs.LockRows.{best_same, held_by_count}
 use Rattle.kernel_tables.proofs.lock_moves.free.Goals as goal
 
 -- the answer is the waiter that was decided on
-next_is : {W N : Type 0} (old : Tables W N) (o u : ObjNo) (best result next : Option ObjNo) → CanLock (Free o u best) (state_of old) → AreKept old → result ≡ best_of old.locks o → result ≡ next → best ≡ next
+next_is : {W N : Type 0} (old : Tables W N) (o u : ObjNo) (best result next : Option ObjNo)
+    → CanLock (Free o u best) (state_of old) → AreKept old → result ≡ best_of old.locks o → result ≡ next → best ≡ next
 next_is old o u best result next can kept answer is = can.2 ∙ (sym (best_same old o kept.tied) ∙ (sym answer ∙ is))
 
 pub returns-in-None : goal.returns-in-None
@@ -35,16 +36,19 @@ returns-in-None g c =
 pub take-requires-clause-thread : goal.take-requires-clause-thread
 take-requires-clause-thread g c =
     let old = c.args.tables.now in
-    let is = next_is old c.args.mutex c.args.thread c.args.best c.free.result (Some c.in-Some.next) c.requires.can c.requires.kept c.free.ensures.answer c.in-Some.is in
+    let is = next_is old c.args.mutex c.args.thread c.args.best c.free.result
+    (Some c.in-Some.next) c.requires.can c.requires.kept c.free.ensures.answer c.in-Some.is in
     let can = rw is at c.requires.can.3 in
     let here = can.1.thread in
-    let long : length c.give-in-Some.new.cleanup.duties ≡ length old.cleanup.duties = ap (λ (s : Lists). length s.duties) c.give-in-Some.ensures ∙ length-set old.cleanup.duties c.args.thread.0 _ in
+    let long : length c.give-in-Some.new.cleanup.duties ≡ length old.cleanup.duties =
+    ap (λ (s : Lists). length s.duties) c.give-in-Some.ensures ∙ length-set old.cleanup.duties c.args.thread.0 _ in
     omega arith
 
 pub take-requires-clause-held : goal.take-requires-clause-held
 take-requires-clause-held g c =
     let old = c.args.tables.now in
-    let is = next_is old c.args.mutex c.args.thread c.args.best c.free.result (Some c.in-Some.next) c.requires.can c.requires.kept c.free.ensures.answer c.in-Some.is in
+    let is = next_is old c.args.mutex c.args.thread c.args.best c.free.result
+    (Some c.in-Some.next) c.requires.can c.requires.kept c.free.ensures.answer c.in-Some.is in
     let can = rw is at c.requires.can.3 in
     held_by_count old c.args.mutex c.requires.kept can.1.referred
 

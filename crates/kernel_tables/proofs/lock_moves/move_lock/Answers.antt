@@ -20,7 +20,9 @@ returns-in-Signal g c =
     let old = c.args.tables.now in
     let o = c.in-Signal.semaphore in
     let can = rw c.in-Signal.is at c.requires.can in
-    let same : c.sem_signal.result ≡ c.in-Signal.field-1 = c.sem_signal.ensures.answer ∙ (ap (λ (best : Option ObjNo). signal_answer best (count_at old.locks.rows o)) (best_same old o c.requires.kept.tied) ∙ sym can.1) in
+    let same : c.sem_signal.result ≡ c.in-Signal.field-1 = c.sem_signal.ensures.answer
+    ∙ (ap (λ (best : Option ObjNo). signal_answer best (count_at old.locks.rows o))
+    (best_same old o c.requires.kept.tied) ∙ sym can.1) in
     rw c.in-Signal.is (λ t. record {
       state = rw (c.sem_signal.ensures.after, same) refl;
       counts = λ p. refl;

@@ -21,7 +21,9 @@ pub returns-in-Freed : goal.returns-in-Freed
 returns-in-Freed g c =
     let old = c.args.tables.now in
     let o = c.args.mutex in
-    let is : c.args.unlocked ≡ Freed = c.requires.can.1 ∙ (ap (unlock_answer (owner_at old.locks.rows o) c.args.thread) (sym (best_same old o c.requires.kept.tied)) ∙ (sym c.unlock.ensures.answer ∙ c.in-Freed.is)) in
+    let is : c.args.unlocked ≡ Freed = c.requires.can.1
+    ∙ (ap (unlock_answer (owner_at old.locks.rows o) c.args.thread) (sym (best_same old o c.requires.kept.tied))
+    ∙ (sym c.unlock.ensures.answer ∙ c.in-Freed.is)) in
     rw is (λ t. record {
       state = rw (c.give.ensures, c.unlock.ensures.after, c.in-Freed.is) refl;
       counts = λ p. refl;
@@ -31,22 +33,29 @@ returns-in-Freed g c =
     })
 
 -- the answer is the one that was decided on
-passed_is : {W N : Type 0} (old : Tables W N) (o u w : ObjNo) (unlocked result : Unlocked) → CanLock (Unlock o u unlocked) (state_of old) → AreKept old → result ≡ unlock_answer (owner_at old.locks.rows o) u (best_of old.locks o) → result ≡ Passed w → unlocked ≡ Passed w
-passed_is old o u w unlocked result can kept answer is = can.1 ∙ (ap (unlock_answer (owner_at old.locks.rows o) u) (sym (best_same old o kept.tied)) ∙ (sym answer ∙ is))
+passed_is : {W N : Type 0} (old : Tables W N) (o u w : ObjNo) (unlocked result : Unlocked)
+    → CanLock (Unlock o u unlocked) (state_of old) → AreKept old
+    → result ≡ unlock_answer (owner_at old.locks.rows o) u (best_of old.locks o) → result ≡ Passed w
+    → unlocked ≡ Passed w
+passed_is old o u w unlocked result can kept answer is =
+    can.1 ∙ (ap (unlock_answer (owner_at old.locks.rows o) u) (sym (best_same old o kept.tied)) ∙ (sym answer ∙ is))
 
 pub take-requires-clause-thread : goal.take-requires-clause-thread
 take-requires-clause-thread g c =
     let old = c.args.tables.now in
-    let is = passed_is old c.args.mutex c.args.thread c.in-Passed.waiter c.args.unlocked c.unlock.result c.requires.can c.requires.kept c.unlock.ensures.answer c.in-Passed.is in
+    let is = passed_is old c.args.mutex c.args.thread c.in-Passed.waiter c.args.unlocked c.unlock.result c.requires.can
+    c.requires.kept c.unlock.ensures.answer c.in-Passed.is in
     let can = rw is at c.requires.can.2 in
     let here = can.1.thread in
-    let long : length c.give-in-Passed.new.cleanup.duties ≡ length old.cleanup.duties = ap (λ (s : Lists). length s.duties) c.give-in-Passed.ensures ∙ length-set old.cleanup.duties c.args.thread.0 _ in
+    let long : length c.give-in-Passed.new.cleanup.duties ≡ length old.cleanup.duties =
+    ap (λ (s : Lists). length s.duties) c.give-in-Passed.ensures ∙ length-set old.cleanup.duties c.args.thread.0 _ in
     omega arith
 
 pub take-requires-clause-held : goal.take-requires-clause-held
 take-requires-clause-held g c =
     let old = c.args.tables.now in
-    let is = passed_is old c.args.mutex c.args.thread c.in-Passed.waiter c.args.unlocked c.unlock.result c.requires.can c.requires.kept c.unlock.ensures.answer c.in-Passed.is in
+    let is = passed_is old c.args.mutex c.args.thread c.in-Passed.waiter c.args.unlocked c.unlock.result c.requires.can
+    c.requires.kept c.unlock.ensures.answer c.in-Passed.is in
     let can = rw is at c.requires.can.2 in
     held_by_count old c.args.mutex c.requires.kept can.1.referred
 

@@ -13,9 +13,22 @@ returns g c =
     let old = c.args.tables.now in
     let known = c.requires.can.0.known in
     λ t. record {
-      state = rw (c.gain_slot.ensures, c.threads_gain.ensures, c.add_ref.ensures.rows, c.note_gain.ensures, duties_gained old.cleanup c.args.holder c.args.object, mutexes_gained old.cleanup c.args.holder c.args.object, logons_gained old.cleanup c.args.holder c.args.object, servers_gained old.cleanup c.args.holder c.args.object) refl;
+      state =
+          rw (
+            c.gain_slot.ensures,
+            c.threads_gain.ensures,
+            c.add_ref.ensures.rows,
+            c.note_gain.ensures,
+            duties_gained old.cleanup c.args.holder c.args.object,
+            mutexes_gained old.cleanup c.args.holder c.args.object,
+            logons_gained old.cleanup c.args.holder c.args.object,
+            servers_gained old.cleanup c.args.holder c.args.object,
+          ) refl;
       counts = rw c.add_ref.ensures.counts (counts-more old.objects.counts c.args.object c.args.holder (rw (c.requires.kept.counts c.args.object) known));
       mode = refl;
       notes = c.add_ref.ensures.notes;
-      tied = rw (c.threads_gain.ensures, c.note_gain.ensures) (tied_gained old.cleanup old.locks.priorities (state_of old) c.args.holder c.args.object c.requires.can.1 c.requires.kept.tied);
+      tied =
+          rw (c.threads_gain.ensures, c.note_gain.ensures)
+          (tied_gained old.cleanup old.locks.priorities
+          (state_of old) c.args.holder c.args.object c.requires.can.1 c.requires.kept.tied);
     }

@@ -33,11 +33,27 @@ returns g c =
     let next : ObjNo = record { 0 = length rows } in
     let is : c.make-object.result ≡ next = ap named c.make-object.ensures.number in
     let none : slice_index old (length rows) ≡ 0 = c.requires.kept.counts next ∙ c.requires.can.2.fresh in
-    let one : slice_index (slice_set old (length rows) 1) (length rows) ≡ 1 = ap (λ (l : List ℕ). slice_index l (length rows)) (sym c.make-object.ensures.counts) ∙ c.make-object.ensures.one in
+    let one : slice_index (slice_set old (length rows) 1) (length rows) ≡ 1 =
+    ap (λ (l : List ℕ). slice_index l (length rows)) (sym c.make-object.ensures.counts) ∙ c.make-object.ensures.one in
     λ t. record {
-      state = rw (c.gain_slot.ensures, c.threads_gain.ensures, c.make-object.ensures.rows, c.owned_gain.ensures, c.note_gain.ensures, is, servers_gained tables.cleanup c.args.holder next, duties_gained tables.cleanup c.args.holder next, mutexes_gained tables.cleanup c.args.holder next, logons_gained tables.cleanup c.args.holder next) refl;
+      state =
+          rw (
+            c.gain_slot.ensures,
+            c.threads_gain.ensures,
+            c.make-object.ensures.rows,
+            c.owned_gain.ensures,
+            c.note_gain.ensures,
+            is,
+            servers_gained tables.cleanup c.args.holder next,
+            duties_gained tables.cleanup c.args.holder next,
+            mutexes_gained tables.cleanup c.args.holder next,
+            logons_gained tables.cleanup c.args.holder next,
+          ) refl;
       counts = rw c.make-object.ensures.counts (counts-first old next c.args.holder none one);
       mode = refl;
       notes = c.make-object.ensures.notes;
-      tied = rw (c.threads_gain.ensures, c.owned_gain.ensures, c.note_gain.ensures, is) (tied_gained tables.cleanup tables.locks.priorities (state_of tables) c.args.holder next c.requires.can.3 c.requires.kept.tied);
+      tied =
+          rw (c.threads_gain.ensures, c.owned_gain.ensures, c.note_gain.ensures, is)
+          (tied_gained tables.cleanup tables.locks.priorities
+          (state_of tables) c.args.holder next c.requires.can.3 c.requires.kept.tied);
     }

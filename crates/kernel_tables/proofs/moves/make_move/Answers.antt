@@ -37,4 +37,6 @@ pub make_other-requires-clause-other : goal.make_other-requires-clause-other
 make_other-requires-clause-other g c = other c.args.change.now c.in_default.not-Lose c.in_default.not-Pay
 
 pub returns-in_default-clause-dead : goal.returns-in_default-clause-dead
-returns-in_default-clause-dead g c = sym (spared c.args.change.now (chosen_state c.args.tables.now c.make_other.new.tables) (other c.args.change.now c.in_default.not-Lose c.in_default.not-Pay))
+returns-in_default-clause-dead g c =
+    sym (spared c.args.change.now (chosen_state c.args.tables.now c.make_other.new.tables)
+    (other c.args.change.now c.in_default.not-Lose c.in_default.not-Pay))

@@ -25,7 +25,9 @@ returns-in-Find g c =
       counts = λ o. refl;
       mode = refl;
       notes = refl;
-      tied = rw c.threads_find.ensures (tied_row old.cleanup old.locks.priorities old.procs.threads c.in-Find.other (with_found c.in-Find.object) (λ r. refl) (λ r. refl) c.requires.kept.tied);
+      tied =
+          rw c.threads_find.ensures (tied_row old.cleanup old.locks.priorities old.procs.threads c.in-Find.other
+          (with_found c.in-Find.object) (λ r. refl) (λ r. refl) c.requires.kept.tied);
     })
 
 pub open_found-requires-clause-can : goal.open_found-requires-clause-can
@@ -42,7 +44,9 @@ returns-in-Miss g c =
       counts = λ o. refl;
       mode = refl;
       notes = refl;
-      tied = rw c.threads_miss.ensures (tied_row old.cleanup old.locks.priorities old.procs.threads c.in-Miss.other with_missed (λ r. refl) (λ r. refl) c.requires.kept.tied);
+      tied =
+          rw c.threads_miss.ensures (tied_row old.cleanup old.locks.priorities old.procs.threads c.in-Miss.other with_missed
+          (λ r. refl) (λ r. refl) c.requires.kept.tied);
     })
 
 pub returns-in-GoOn : goal.returns-in-GoOn
@@ -53,7 +57,9 @@ returns-in-GoOn g c =
       counts = λ o. refl;
       mode = refl;
       notes = refl;
-      tied = rw c.threads_go_on.ensures (tied_row old.cleanup old.locks.priorities old.procs.threads c.in-GoOn.other (with_part c.in-GoOn.part) (λ r. refl) (λ r. refl) c.requires.kept.tied);
+      tied =
+          rw c.threads_go_on.ensures (tied_row old.cleanup old.locks.priorities old.procs.threads c.in-GoOn.other
+          (with_part c.in-GoOn.part) (λ r. refl) (λ r. refl) c.requires.kept.tied);
     })
 
 pub returns-in-Write : goal.returns-in-Write
@@ -64,7 +70,9 @@ returns-in-Write g c =
       counts = λ o. refl;
       mode = refl;
       notes = refl;
-      tied = rw c.threads_write.ensures (tied_row old.cleanup old.locks.priorities old.procs.threads c.in-Write.other (with_register c.in-Write.register c.in-Write.value) (λ r. refl) (λ r. refl) c.requires.kept.tied);
+      tied =
+          rw c.threads_write.ensures (tied_row old.cleanup old.locks.priorities old.procs.threads c.in-Write.other
+          (with_register c.in-Write.register c.in-Write.value) (λ r. refl) (λ r. refl) c.requires.kept.tied);
     })
 
 pub returns-in-Wait : goal.returns-in-Wait
@@ -75,7 +83,9 @@ returns-in-Wait g c =
       counts = λ o. refl;
       mode = refl;
       notes = refl;
-      tied = rw c.threads_wait.ensures (tied_row old.cleanup old.locks.priorities old.procs.threads c.in-Wait.other (with_waiting c.in-Wait.what) (λ r. refl) (λ r. refl) c.requires.kept.tied);
+      tied =
+          rw c.threads_wait.ensures (tied_row old.cleanup old.locks.priorities old.procs.threads c.in-Wait.other
+          (with_waiting c.in-Wait.what) (λ r. refl) (λ r. refl) c.requires.kept.tied);
     })
 
 pub returns-in-Wake : goal.returns-in-Wake
@@ -86,7 +96,9 @@ returns-in-Wake g c =
       counts = λ o. refl;
       mode = refl;
       notes = refl;
-      tied = rw c.threads_wait-in-Wake.ensures (tied_row old.cleanup old.locks.priorities old.procs.threads c.in-Wake.other (with_waiting waiting.Nothing) (λ r. refl) (λ r. refl) c.requires.kept.tied);
+      tied =
+          rw c.threads_wait-in-Wake.ensures (tied_row old.cleanup old.locks.priorities old.procs.threads c.in-Wake.other
+          (with_waiting waiting.Nothing) (λ r. refl) (λ r. refl) c.requires.kept.tied);
     })
 
 pub returns-in-SetPriority : goal.returns-in-SetPriority
@@ -96,13 +108,27 @@ pub returns-in-Locks : goal.returns-in-Locks
 returns-in-Locks g c = rw c.in-Locks.is (c.move_lock.ensures c.args.thread)
 
 pub returns-in-Logons : goal.returns-in-Logons
-returns-in-Logons g c = rw c.in-Logons.is (record { state = rw c.move_logon.ensures refl; counts = λ o. refl; mode = refl; notes = refl; tied = rw c.move_logon.ensures c.requires.kept.tied })
+returns-in-Logons g c =
+    rw c.in-Logons.is (record {
+      state = rw c.move_logon.ensures refl;
+      counts = λ o. refl;
+      mode = refl;
+      notes = refl;
+      tied = rw c.move_logon.ensures c.requires.kept.tied;
+    })
 
 pub returns-in-Death : goal.returns-in-Death
 returns-in-Death g c = rw c.in-Death.is c.move_death.ensures
 
 pub returns-in-Fill : goal.returns-in-Fill
-returns-in-Fill g c = rw c.in-Fill.is (record { state = rw c.fill.ensures refl; counts = λ o. refl; mode = refl; notes = refl; tied = rw c.fill.ensures c.requires.kept.tied })
+returns-in-Fill g c =
+    rw c.in-Fill.is (record {
+      state = rw c.fill.ensures refl;
+      counts = λ o. refl;
+      mode = refl;
+      notes = refl;
+      tied = rw c.fill.ensures c.requires.kept.tied;
+    })
 
 pub returns-in-Copies : goal.returns-in-Copies
 returns-in-Copies g c = rw c.in-Copies.is (c.move_copy.ensures c.args.thread)
@@ -118,7 +144,14 @@ returns-in-Nano g c =
     })
 
 pub returns-in-Deferred : goal.returns-in-Deferred
-returns-in-Deferred g c = rw c.in-Deferred.is (record { state = rw c.change.ensures refl; counts = λ o. refl; mode = refl; notes = refl; tied = c.requires.kept.tied })
+returns-in-Deferred g c =
+    rw c.in-Deferred.is (record {
+      state = rw c.change.ensures refl;
+      counts = λ o. refl;
+      mode = refl;
+      notes = refl;
+      tied = c.requires.kept.tied;
+    })
 
 pub returns-in-Requests : goal.returns-in-Requests
 returns-in-Requests g c =
@@ -138,7 +171,9 @@ returns-in-Keep g c =
       counts = λ o. refl;
       mode = refl;
       notes = refl;
-      tied = rw c.threads_keep.ensures (tied_row old.cleanup old.locks.priorities old.procs.threads c.in-Keep.other (with_kept c.in-Keep.number) (λ r. refl) (λ r. refl) c.requires.kept.tied);
+      tied =
+          rw c.threads_keep.ensures (tied_row old.cleanup old.locks.priorities old.procs.threads c.in-Keep.other
+          (with_kept c.in-Keep.number) (λ r. refl) (λ r. refl) c.requires.kept.tied);
     })
 
 pub returns-in-WriteMessage : goal.returns-in-WriteMessage
@@ -149,7 +184,10 @@ returns-in-WriteMessage g c =
       counts = λ o. refl;
       mode = refl;
       notes = refl;
-      tied = rw c.threads_write_message.ensures (tied_row old.cleanup old.locks.priorities old.procs.threads c.in-WriteMessage.other (with_message c.in-WriteMessage.register c.in-WriteMessage.number) (λ r. refl) (λ r. refl) c.requires.kept.tied);
+      tied =
+          rw c.threads_write_message.ensures (tied_row old.cleanup old.locks.priorities old.procs.threads
+          c.in-WriteMessage.other (with_message c.in-WriteMessage.register c.in-WriteMessage.number) (λ r. refl)
+          (λ r. refl) c.requires.kept.tied);
     })
 
 pub returns-in-PutDown : goal.returns-in-PutDown

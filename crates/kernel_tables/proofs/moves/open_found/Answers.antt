@@ -15,8 +15,13 @@ returns g c =
     let known = c.requires.can.0.known in
     λ t. record {
       state = rw (c.threads_open.ensures, c.add_ref.ensures.rows, c.note_gain.ensures) refl;
-      counts = rw c.add_ref.ensures.counts (counts-more old.objects.counts c.args.object (Temp c.args.thread) (rw (c.requires.kept.counts c.args.object) known));
+      counts =
+          rw c.add_ref.ensures.counts (counts-more old.objects.counts c.args.object (Temp c.args.thread)
+          (rw (c.requires.kept.counts c.args.object) known));
       mode = refl;
       notes = c.add_ref.ensures.notes;
-      tied = rw (c.threads_open.ensures, c.note_gain.ensures) (tied_opened old.cleanup old.locks.priorities (state_of old) c.args.thread c.args.object c.args.part c.requires.can.1 c.requires.kept.tied);
+      tied =
+          rw (c.threads_open.ensures, c.note_gain.ensures)
+          (tied_opened old.cleanup old.locks.priorities
+          (state_of old) c.args.thread c.args.object c.args.part c.requires.can.1 c.requires.kept.tied);
     }

@@ -16,5 +16,8 @@ returns g c =
       counts = λ o. refl;
       mode = refl;
       notes = refl;
-      tied = rw (c.threads_set_priority.ensures, c.set_priority.ensures) (tied_ranked old.cleanup old.locks.priorities old.procs.threads t there.row c.args.priority there.is inside c.requires.tied);
+      tied =
+          rw (c.threads_set_priority.ensures, c.set_priority.ensures)
+          (tied_ranked old.cleanup old.locks.priorities old.procs.threads t there.row c.args.priority there.is inside
+          c.requires.tied);
     }

@@ -14,7 +14,9 @@ use Rattle.kernel_tables.proofs.Tying.{tied_opened}
 use Rattle.kernel_tables.proofs.note_moves.open_noted.Goals as goal
 
 pub note_gain-requires : goal.note_gain-requires
-note_gain-requires g c = may_use c.args.tables.now.cleanup (state_of c.args.tables.now) (Temp c.args.thread) c.requires.kept.tied.uses (c.requires.unused c.take_back.ensures.was_out)
+note_gain-requires g c =
+    may_use c.args.tables.now.cleanup (state_of c.args.tables.now) (Temp c.args.thread) c.requires.kept.tied.uses
+    (c.requires.unused c.take_back.ensures.was_out)
 
 pub returns-clause-moved : goal.returns-clause-moved
 returns-clause-moved g c =
@@ -25,12 +27,17 @@ returns-clause-moved g c =
     let alive : IsAlive (slice_index_or old.objects.rows p None) = rw at c.requires.alive in
     let held : c.take_back.result ≡ Held = c.take_back.ensures.held.1 (alive_is (slice_index_or old.objects.rows p None) alive) in
     let counts : c.take_back.new.self.counts ≡ slice_set old.objects.counts o.0 (slice_index old.objects.counts o.0 + 1) =
-    c.take_back.ensures.counts ∙ ap (λ (f : Found). counts_found f old.objects.counts p) held ∙ ap (λ (n : ℕ). slice_set old.objects.counts n (slice_index old.objects.counts n + 1)) at in
+    c.take_back.ensures.counts
+    ∙ ap (λ (f : Found). counts_found f old.objects.counts p) held
+    ∙ ap (λ (n : ℕ). slice_set old.objects.counts n (slice_index old.objects.counts n + 1)) at in
     let within : o.0 < length old.objects.counts = subst (λ (n : ℕ). n < length old.objects.counts) at c.take_back.ensures.inside in
     λ t. record {
       state = rw (c.threads_open.ensures, c.take_back.ensures.rows, c.note_gain.ensures) refl;
       counts = rw counts (counts-next old.objects.counts o (Temp c.args.thread) within);
       mode = refl;
       notes = c.take_back.ensures.notes;
-      tied = rw (c.threads_open.ensures, c.note_gain.ensures) (tied_opened old.cleanup old.locks.priorities (state_of old) c.args.thread o c.args.part (c.requires.unused c.take_back.ensures.was_out) c.requires.kept.tied);
+      tied =
+          rw (c.threads_open.ensures, c.note_gain.ensures)
+          (tied_opened old.cleanup old.locks.priorities (state_of old) c.args.thread o c.args.part
+          (c.requires.unused c.take_back.ensures.was_out) c.requires.kept.tied);
     }

@@ -33,4 +33,5 @@ returns-in-Some-thread-clause-queues g c =
     let known = c.requires.known t row there in
     let own : priority_of S t ≡ row.priority = ap priority_of_row there in
     let none : is_some c.priority_of.result ≡ false = sym c.is_some.ensures ∙ c.if-is_some.false in
-    rw (c.in-Some.is, c.add.ensures) (comes c.args.script.now S (priority_of S) c.args.ready.now t row.priority (sym c.is_ready.ensures ∙ c.if-not-is_ready.false) (c.priority_of.ensures.none.0 none) known.0 own known.1)
+    rw (c.in-Some.is, c.add.ensures) (comes c.args.script.now S (priority_of S) c.args.ready.now t row.priority
+    (sym c.is_ready.ensures ∙ c.if-not-is_ready.false) (c.priority_of.ensures.none.0 none) known.0 own known.1)

@@ -1,8 +1,11 @@
-use Rattle.std.proofs.Common.{sym, ◌∙◌}
 use Rattle.kernel_tables.specs.StateOf.{state_of}
-use Rattle.kernel_tables.proofs.ReadyChanges.{leaves_unready}
+use Rattle.kernel_tables.proofs.ReadyChanges.{leaves_ready}
 use Rattle.kernel_tables.proofs.ready.leave.Goals as goal
 
-pub returns-then-not-is_ready-clause-queues : goal.returns-then-not-is_ready-clause-queues
-returns-then-not-is_ready-clause-queues g c = λ rank.
-    rw c.in-Some.is (leaves_unready c.args.script.now (state_of c.args.tables.now) rank c.args.ready.now c.take_off.new.ready c.in-Some.thread (sym c.is_ready.ensures ∙ c.if-not-is_ready.true) (c.take_off.ensures.queues rank))
+pub returns-then-is_running-clause-queues : goal.returns-then-is_running-clause-queues
+returns-then-is_running-clause-queues g c = λ rank.
+    rw c.in-Some.is (leaves_ready c.args.script.now (state_of c.args.tables.now) rank c.args.ready.now c.in-Some.thread
+    (c.is_running.ensures c.args.script.now c.if-is_running.true))
+
+pub returns-clause-queues : goal.returns-clause-queues
+returns-clause-queues g c = λ rank. rw c.in-Some.is (c.leave_unready.ensures.queues rank)

@@ -11,7 +11,9 @@ loop-change-preserved g c =
       c.leave_touched.ensures.size,
       λ rank qs h.
           let left = rw next at (c.loop-change.invariant.1 rank qs h) in
-          left_goes_on rank c.args.script.now (state_of c.args.tables.now) c.args.thread m (drop (i + 1) c.args.moves.now) c.loop-change.ready c.leave_touched.new.ready _ left (rw c.touched.ensures at (c.leave_touched.ensures.queues rank)),
+          left_goes_on rank c.args.script.now (state_of c.args.tables.now) c.args.thread m
+          (drop (i + 1) c.args.moves.now) c.loop-change.ready c.leave_touched.new.ready _ left
+          (rw c.touched.ensures at (c.leave_touched.ensures.queues rank)),
     )
 
 pub returns-clause-queues : goal.returns-clause-queues

@@ -7,4 +7,7 @@ use Rattle.kernel_tables.proofs.Performing.{Left}
 use Rattle.kernel_tables.proofs.ready.leave_along.Given as goal
 
 abbrev pub invariant-loop-change : goal.invariant-loop-change
-invariant-loop-change g l = (l.ready.threads ≡ BOOT_OBJECTS) × ((rank : ObjNo → ℕ) (qs : List ObjNo) → AreReady rank qs l.initial.ready → Left rank l.script (state_of l.tables) l.thread (drop l.change-index l.moves) l.ready (leave_along l.script (state_of l.tables) l.thread l.moves qs))
+invariant-loop-change g l =
+    (l.ready.threads ≡ BOOT_OBJECTS) × ((rank : ObjNo → ℕ) (qs : List ObjNo) → AreReady rank qs l.initial.ready
+    → Left rank l.script (state_of l.tables) l.thread (drop l.change-index l.moves) l.ready
+    (leave_along l.script (state_of l.tables) l.thread l.moves qs))

@@ -19,7 +19,8 @@ add_ref-requires-2 g c =
     let more = one_more old.objects.counts c.args.row.session c.args.row.client in
     let few = c.requires.can.client.few in
     let agree = c.requires.kept.counts c.args.row.client in
-    rw (c.add_ref.ensures.rows, c.add_ref.ensures.counts) (record { there = held.there; known = omega (arith, more.0, held.known); few = omega (arith, more.1, few, agree) })
+    rw (c.add_ref.ensures.rows, c.add_ref.ensures.counts)
+    (record { there = held.there; known = omega (arith, more.0, held.known); few = omega (arith, more.1, few, agree) })
 
 pub accept-requires : goal.accept-requires
 accept-requires g c = record { server = c.requires.can.server; room = c.requires.can.room; number = c.requires.can.number }
@@ -34,7 +35,10 @@ returns g c =
     let function = to_z-of_z fits in
     λ t. record {
       state = rw (c.accept.ensures.accepted, c.add_ref-2.ensures.rows, c.add_ref.ensures.rows, function, ← rows) refl;
-      counts = rw (c.add_ref-2.ensures.counts, c.add_ref.ensures.counts) (counts-two old.objects.counts c.args.row.session c.args.row.client (next_number old.messages) (Message (next_number old.messages)) session.known client.known);
+      counts =
+          rw (c.add_ref-2.ensures.counts, c.add_ref.ensures.counts)
+          (counts-two old.objects.counts c.args.row.session c.args.row.client (next_number old.messages)
+          (Message (next_number old.messages)) session.known client.known);
       mode = refl;
       notes = c.add_ref-2.ensures.notes ∙ c.add_ref.ensures.notes;
       tied = c.requires.kept.tied;

@@ -9,9 +9,18 @@ pub returns-in-Accept : goal.returns-in-Accept
 returns-in-Accept g c = rw c.in-Accept.is (c.accept.ensures c.args.thread)
 
 pub returns-in-Take : goal.returns-in-Take
-returns-in-Take g c = rw c.in-Take.is (record { state = rw c.take_next.ensures.taken refl; counts = λ o. refl; mode = refl; notes = refl; tied = c.requires.kept.tied })
+returns-in-Take g c =
+    rw c.in-Take.is (record {
+      state = rw c.take_next.ensures.taken refl;
+      counts = λ o. refl;
+      mode = refl;
+      notes = refl;
+      tied = c.requires.kept.tied;
+    })
 
 pub returns-in-Finish : goal.returns-in-Finish
 returns-in-Finish g c =
     let fits : FitsSigned w32 c.in-Finish.code = search rules in
-    rw c.in-Finish.is (subst (λ (code : ℤ). IsMoved c.args.thread (Messages (Finish c.in-Finish.number code)) c.args.tables.now c.finish.new.tables) (to_z-of_z fits) c.finish.ensures)
+    rw c.in-Finish.is (subst (λ (code : ℤ). IsMoved c.args.thread
+    (Messages (Finish c.in-Finish.number code)) c.args.tables.now c.finish.new.tables)
+    (to_z-of_z fits) c.finish.ensures)

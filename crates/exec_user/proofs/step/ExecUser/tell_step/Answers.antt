@@ -2,10 +2,14 @@ use Rattle.exec_user.proofs.Steps.{step_goes, step_registers, step_ranges}
 use Rattle.exec_user.proofs.step.ExecUser.tell_step.Goals as goal
 
 pub decide_step-requires-clause-registers : goal.decide_step-requires-clause-registers
-decide_step-requires-clause-registers g c = step_registers c.args.script.now c.args.self.now.core.now.state c.args.t c.args.instr.now c.requires.runs.shaped c.requires.at
+decide_step-requires-clause-registers g c =
+    step_registers c.args.script.now c.args.self.now.core.now.state c.args.t c.args.instr.now c.requires.runs.shaped
+    c.requires.at
 
 pub decide_step-requires-clause-ranges : goal.decide_step-requires-clause-ranges
-decide_step-requires-clause-ranges g c = step_ranges c.args.script.now c.args.self.now.core.now.state c.args.t c.args.instr.now c.requires.runs.shaped c.requires.at
+decide_step-requires-clause-ranges g c =
+    step_ranges c.args.script.now c.args.self.now.core.now.state c.args.t c.args.instr.now c.requires.runs.shaped
+    c.requires.at
 
 pub make-requires-clause-goes : goal.make-requires-clause-goes
 make-requires-clause-goes g c =

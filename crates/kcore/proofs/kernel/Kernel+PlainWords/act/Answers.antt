@@ -15,4 +15,5 @@ returns-clause-lighter c =
     let k = c.args.self.now in
     let new = c.step.new.self in
     let e = entry_by k.script (after k.script k.history) (length k.history + 1) (Thread c.args.t) in
-    rw c.step.ensures.script (lighter false k.script k.history new.history e c.args.t c.step.ensures.entry refl (rw c.step.ensures.script at c.step.ensures.safe))
+    rw c.step.ensures.script (lighter false k.script k.history new.history e c.args.t c.step.ensures.entry refl
+    (rw c.step.ensures.script at c.step.ensures.safe))

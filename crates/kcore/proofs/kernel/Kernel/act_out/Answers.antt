@@ -21,4 +21,5 @@ pub returns-clause-lighter : goal.returns-clause-lighter
 returns-clause-lighter g c =
     let k = c.args.self.now in
     let new = c.step_out.new.self in
-    rw c.step_out.ensures.script (lighter-more k.script k.history new.history c.args.t c.step_out.ensures.entry.more (rw c.step_out.ensures.script at c.step_out.ensures.safe))
+    rw c.step_out.ensures.script (lighter-more k.script k.history new.history c.args.t c.step_out.ensures.entry.more
+    (rw c.step_out.ensures.script at c.step_out.ensures.safe))

@@ -8,7 +8,8 @@ use Rattle.kcore.proofs.kernel.Kernel.boot.Goals as goal
 pub invariant_of-result : goal.invariant_of-result
 invariant_of-result g c =
     let core = c.in_ok-core.ensures in
-    rw c.in_ok-history.ensures.items (boot-kernel c.args.script c.in_ok-core.core c.args.room _ _ c.requires.valid c.requires.room (let room = c.in_ok-history.ensures.exact in omega arith) core.state core.queues core.notes)
+    rw c.in_ok-history.ensures.items (boot-kernel c.args.script c.in_ok-core.core c.args.room _ _ c.requires.valid
+    c.requires.room (let room = c.in_ok-history.ensures.exact in omega arith) core.state core.queues core.notes)
 
 pub returns-clause-kernel : goal.returns-clause-kernel
 returns-clause-kernel g c = rw c.in_ok-history.ensures.items refl

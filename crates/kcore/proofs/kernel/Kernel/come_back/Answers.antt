@@ -19,7 +19,8 @@ go_back-requires-clause-runs g c =
     let mid = c.share.new.self in
     let its = rw (← c.self.view_is) at c.requires.its in
     let s = g.W.RefWords.slip c.args.note in
-    runs true k.script k.history.items mid (out-begins k.script k.history.items k.core mid k.out k.room _ c.self.invariant suits c.share.ensures.state c.share.ensures.ready c.share.ensures.notes)
+    runs true k.script k.history.items mid (out-begins k.script k.history.items k.core mid k.out k.room _
+    c.self.invariant suits c.share.ensures.state c.share.ensures.ready c.share.ensures.notes)
 
 pub go_back-requires-clause-may : goal.go_back-requires-clause-may
 go_back-requires-clause-may g c =
@@ -28,7 +29,11 @@ go_back-requires-clause-may g c =
     let mid = c.share.new.self in
     let its = rw (← c.self.view_is) at c.requires.its in
     let s = g.W.RefWords.slip c.args.note in
-    may-come k.script k.history.items mid mid.notes s c.args.t (out-begins k.script k.history.items k.core mid k.out k.room _ c.self.invariant suits c.share.ensures.state c.share.ensures.ready c.share.ensures.notes) (out-notes k.script k.history.items k.core mid k.out k.room _ c.self.invariant suits c.share.ensures.state c.share.ensures.ready c.share.ensures.notes) its
+    may-come k.script k.history.items mid mid.notes s c.args.t
+    (out-begins k.script k.history.items k.core mid k.out k.room _ c.self.invariant suits c.share.ensures.state
+    c.share.ensures.ready c.share.ensures.notes)
+    (out-notes k.script k.history.items k.core mid k.out k.room _ c.self.invariant suits c.share.ensures.state
+    c.share.ensures.ready c.share.ensures.notes) its
 
 pub go_back-requires-clause-room : goal.go_back-requires-clause-room
 go_back-requires-clause-room g c =
@@ -39,7 +44,8 @@ go_back-requires-clause-room g c =
     let s = g.W.RefWords.slip c.args.note in
     let room = rw (← c.self.view_is) at c.requires.room in
     let fits = c.self.invariant.fits in
-    let many = (out-notes k.script k.history.items k.core mid k.out k.room _ c.self.invariant suits c.share.ensures.state c.share.ensures.ready c.share.ensures.notes).many in
+    let many = (out-notes k.script k.history.items k.core mid k.out k.room _ c.self.invariant suits
+    c.share.ensures.state c.share.ensures.ready c.share.ensures.notes).many in
     λ noted. let some = one-noted mid.notes.out s noted in omega arith
 
 pub go_back-requires-clause-few : goal.go_back-requires-clause-few
@@ -60,13 +66,19 @@ invariant_of-self g c =
     let s = g.W.RefWords.slip c.args.note in
     let items = c.go_back.new.history.items in
     let core = c.go_back.new.core in
-    let can = back-can k.script k.history.items k.core mid k.out k.room _ c.self.invariant suits c.share.ensures.state c.share.ensures.ready c.share.ensures.notes items core s c.args.t c.go_back.ensures.was_out its c.go_back.ensures.went in
+    let can = back-can k.script k.history.items k.core mid k.out k.room _ c.self.invariant suits c.share.ensures.state
+    c.share.ensures.ready c.share.ensures.notes items core s c.args.t c.go_back.ensures.was_out its
+    c.go_back.ensures.went in
     let fewer = sym (ap (λ (n : Notes). length n.out + 1) c.go_back.ensures.notes) ∙ c.go_back.ensures.fewer in
-    let are = back-notes k.script k.history.items k.core mid k.out k.room _ c.self.invariant suits c.share.ensures.state c.share.ensures.ready c.share.ensures.notes items core s c.args.t c.go_back.ensures.was_out its c.go_back.ensures.went fewer in
+    let are = back-notes k.script k.history.items k.core mid k.out k.room _ c.self.invariant suits c.share.ensures.state
+    c.share.ensures.ready c.share.ensures.notes items core s c.args.t c.go_back.ensures.was_out its
+    c.go_back.ensures.went fewer in
     let notes = subst (λ (n : Notes). AreNotes items (after_in true k.script items) n) (sym c.go_back.ensures.notes) are in
     let counted = c.self.invariant.counted ∙ ap (λ (n : Notes). length n.out) (sym c.share.ensures.notes) in
     let last = c.go_back.ensures.fewer in
-    out-kernel k.script k.history.items k.core mid k.out k.room _ c.self.invariant suits c.share.ensures.state c.share.ensures.ready c.share.ensures.notes items core (Thread c.args.t) can c.go_back.ensures.went core (k.out - 1) _ refl refl notes (omega arith) c.go_back.ensures.capacity
+    out-kernel k.script k.history.items k.core mid k.out k.room _ c.self.invariant suits c.share.ensures.state
+    c.share.ensures.ready c.share.ensures.notes items core (Thread c.args.t) can c.go_back.ensures.went core
+    (k.out - 1) _ refl refl notes (omega arith) c.go_back.ensures.capacity
 
 pub returns-clause-mode : goal.returns-clause-mode
 returns-clause-mode g c =
@@ -77,8 +89,11 @@ returns-clause-mode g c =
     let s = g.W.RefWords.slip c.args.note in
     let items = c.go_back.new.history.items in
     let core = c.go_back.new.core in
-    let can = back-can k.script k.history.items k.core mid k.out k.room _ c.self.invariant suits c.share.ensures.state c.share.ensures.ready c.share.ensures.notes items core s c.args.t c.go_back.ensures.was_out its c.go_back.ensures.went in
-    out-mode k.script k.history.items k.core mid k.out k.room _ c.self.invariant suits c.share.ensures.state c.share.ensures.ready c.share.ensures.notes items core (Thread c.args.t) can c.go_back.ensures.went core refl
+    let can = back-can k.script k.history.items k.core mid k.out k.room _ c.self.invariant suits c.share.ensures.state
+    c.share.ensures.ready c.share.ensures.notes items core s c.args.t c.go_back.ensures.was_out its
+    c.go_back.ensures.went in
+    out-mode k.script k.history.items k.core mid k.out k.room _ c.self.invariant suits c.share.ensures.state
+    c.share.ensures.ready c.share.ensures.notes items core (Thread c.args.t) can c.go_back.ensures.went core refl
 
 pub returns-clause-was_out : goal.returns-clause-was_out
 returns-clause-was_out g c =
@@ -87,7 +102,9 @@ returns-clause-was_out g c =
     let mid = c.share.new.self in
     let its = rw (← c.self.view_is) at c.requires.its in
     let s = g.W.RefWords.slip c.args.note in
-    rw (← c.self.view_is) (back-out k.script k.history.items k.core mid k.out k.room _ c.self.invariant suits c.share.ensures.state c.share.ensures.ready c.share.ensures.notes c.go_back.new.history.items c.go_back.new.core s c.args.t c.go_back.ensures.was_out its c.go_back.ensures.went)
+    rw (← c.self.view_is) (back-out k.script k.history.items k.core mid k.out k.room _ c.self.invariant suits
+    c.share.ensures.state c.share.ensures.ready c.share.ensures.notes c.go_back.new.history.items c.go_back.new.core s
+    c.args.t c.go_back.ensures.was_out its c.go_back.ensures.went)
 
 pub returns-clause-entry : goal.returns-clause-entry
 returns-clause-entry g c =
@@ -96,7 +113,9 @@ returns-clause-entry g c =
     let mid = c.share.new.self in
     let its = rw (← c.self.view_is) at c.requires.its in
     let s = g.W.RefWords.slip c.args.note in
-    rw (← c.self.view_is) (back-returns k.script k.history.items k.core mid k.out k.room _ c.self.invariant suits c.share.ensures.state c.share.ensures.ready c.share.ensures.notes c.go_back.new.history.items c.go_back.new.core s c.args.t c.go_back.ensures.was_out its c.go_back.ensures.went)
+    rw (← c.self.view_is) (back-returns k.script k.history.items k.core mid k.out k.room _ c.self.invariant suits
+    c.share.ensures.state c.share.ensures.ready c.share.ensures.notes c.go_back.new.history.items c.go_back.new.core s
+    c.args.t c.go_back.ensures.was_out its c.go_back.ensures.went)
 
 pub returns-clause-legal : goal.returns-clause-legal
 returns-clause-legal g c =
@@ -107,8 +126,11 @@ returns-clause-legal g c =
     let s = g.W.RefWords.slip c.args.note in
     let items = c.go_back.new.history.items in
     let core = c.go_back.new.core in
-    let can = back-can k.script k.history.items k.core mid k.out k.room _ c.self.invariant suits c.share.ensures.state c.share.ensures.ready c.share.ensures.notes items core s c.args.t c.go_back.ensures.was_out its c.go_back.ensures.went in
-    (out-follows k.script k.history.items k.core mid k.out k.room _ c.self.invariant suits c.share.ensures.state c.share.ensures.ready c.share.ensures.notes items core (Thread c.args.t) can c.go_back.ensures.went).legal
+    let can = back-can k.script k.history.items k.core mid k.out k.room _ c.self.invariant suits c.share.ensures.state
+    c.share.ensures.ready c.share.ensures.notes items core s c.args.t c.go_back.ensures.was_out its
+    c.go_back.ensures.went in
+    (out-follows k.script k.history.items k.core mid k.out k.room _ c.self.invariant suits c.share.ensures.state
+    c.share.ensures.ready c.share.ensures.notes items core (Thread c.args.t) can c.go_back.ensures.went).legal
 
 pub returns-clause-safe : goal.returns-clause-safe
 returns-clause-safe g c = legal_safety true c.self.inside.script c.go_back.new.history.items c.self.invariant.stands.valid (returns-clause-legal g c)
@@ -125,5 +147,7 @@ returns-clause-lighter g c =
     let s = g.W.RefWords.slip c.args.note in
     let items = c.go_back.new.history.items in
     let core = c.go_back.new.core in
-    let back = back-returns k.script k.history.items k.core mid k.out k.room _ c.self.invariant suits c.share.ensures.state c.share.ensures.ready c.share.ensures.notes items core s c.args.t c.go_back.ensures.was_out its c.go_back.ensures.went in
+    let back = back-returns k.script k.history.items k.core mid k.out k.room _ c.self.invariant suits
+    c.share.ensures.state c.share.ensures.ready c.share.ensures.notes items core s c.args.t c.go_back.ensures.was_out
+    its c.go_back.ensures.went in
     rw (← c.self.view_is) (lighter-more k.script k.history.items items c.args.t back.more (returns-clause-safe g c))

@@ -16,7 +16,8 @@ returns-clause-legal g c =
 pub returns-clause-safe : goal.returns-clause-safe
 returns-clause-safe g c =
     let k = c.self.inside in
-    rw (← c.self.view_is) (λ shared suits. legal_safety shared k.script k.history.items c.self.invariant.stands.valid (legal-in k.script k.core.state.mode.shared shared k.history.items suits c.self.invariant.stands.legal))
+    rw (← c.self.view_is) (λ shared suits. legal_safety shared k.script k.history.items c.self.invariant.stands.valid
+    (legal-in k.script k.core.state.mode.shared shared k.history.items suits c.self.invariant.stands.legal))
 
 pub returns-clause-holders : goal.returns-clause-holders
 returns-clause-holders g c =

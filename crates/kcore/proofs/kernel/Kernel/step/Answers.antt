@@ -18,13 +18,17 @@ pub go-requires-clause-may : goal.go-requires-clause-may
 go-requires-clause-may g c =
     let k = c.self.inside in
     let suits = rw (← c.self.view_is) at c.requires.mode in
-    may-alone k.script k.history.items k.core k.core.notes (acting c.args.actor) (alone-begins k.script k.history.items k.core k.out k.room _ c.self.invariant suits) (alone-stands k.script k.history.items k.core k.out k.room _ c.self.invariant suits).notes
+    may-alone k.script k.history.items k.core k.core.notes (acting c.args.actor)
+    (alone-begins k.script k.history.items k.core k.out k.room _ c.self.invariant suits)
+    (alone-stands k.script k.history.items k.core k.out k.room _ c.self.invariant suits).notes
 
 pub go-requires-clause-can : goal.go-requires-clause-can
 go-requires-clause-can g c =
     let k = c.self.inside in
     let suits = rw (← c.self.view_is) at c.requires.mode in
-    may false k.script k.history.items k.core (alone-begins k.script k.history.items k.core k.out k.room _ c.self.invariant suits) c.args.actor (rw (← c.self.view_is) at c.requires.can)
+    may false k.script k.history.items k.core
+    (alone-begins k.script k.history.items k.core k.out k.room _ c.self.invariant suits) c.args.actor
+    (rw (← c.self.view_is) at c.requires.can)
 
 pub go-requires-clause-stays : goal.go-requires-clause-stays
 go-requires-clause-stays g c =
@@ -42,25 +46,30 @@ pub invariant_of-self : goal.invariant_of-self
 invariant_of-self g c =
     let k = c.self.inside in
     let suits = rw (← c.self.view_is) at c.requires.mode in
-    alone-kernel k.script k.history.items k.core k.out k.room _ c.self.invariant suits c.go.new.history.items c.go.new.core c.args.actor (rw (← c.self.view_is) at c.requires.can) c.go.ensures.went _ c.go.ensures.capacity c.go.ensures.notes
+    alone-kernel k.script k.history.items k.core k.out k.room _ c.self.invariant suits c.go.new.history.items
+    c.go.new.core c.args.actor (rw (← c.self.view_is) at c.requires.can) c.go.ensures.went _ c.go.ensures.capacity
+    c.go.ensures.notes
 
 pub returns-clause-mode : goal.returns-clause-mode
 returns-clause-mode g c =
     let k = c.self.inside in
     let suits = rw (← c.self.view_is) at c.requires.mode in
-    alone-mode k.script k.history.items k.core k.out k.room _ c.self.invariant suits c.go.new.history.items c.go.new.core c.args.actor (rw (← c.self.view_is) at c.requires.can) c.go.ensures.went
+    alone-mode k.script k.history.items k.core k.out k.room _ c.self.invariant suits c.go.new.history.items
+    c.go.new.core c.args.actor (rw (← c.self.view_is) at c.requires.can) c.go.ensures.went
 
 pub returns-clause-entry : goal.returns-clause-entry
 returns-clause-entry g c =
     let k = c.self.inside in
     let suits = rw (← c.self.view_is) at c.requires.mode in
-    rw (← c.self.view_is) (alone-entry k.script k.history.items k.core k.out k.room _ c.self.invariant suits c.go.new.history.items c.go.new.core c.args.actor (rw (← c.self.view_is) at c.requires.can) c.go.ensures.went)
+    rw (← c.self.view_is) (alone-entry k.script k.history.items k.core k.out k.room _ c.self.invariant suits
+    c.go.new.history.items c.go.new.core c.args.actor (rw (← c.self.view_is) at c.requires.can) c.go.ensures.went)
 
 pub returns-clause-legal : goal.returns-clause-legal
 returns-clause-legal g c =
     let k = c.self.inside in
     let suits = rw (← c.self.view_is) at c.requires.mode in
-    (alone-follows k.script k.history.items k.core k.out k.room _ c.self.invariant suits c.go.new.history.items c.go.new.core c.args.actor (rw (← c.self.view_is) at c.requires.can) c.go.ensures.went).legal
+    (alone-follows k.script k.history.items k.core k.out k.room _ c.self.invariant suits c.go.new.history.items
+    c.go.new.core c.args.actor (rw (← c.self.view_is) at c.requires.can) c.go.ensures.went).legal
 
 pub returns-clause-safe : goal.returns-clause-safe
 returns-clause-safe g c = legal_safety false c.self.inside.script c.go.new.history.items c.self.invariant.stands.valid (returns-clause-legal g c)

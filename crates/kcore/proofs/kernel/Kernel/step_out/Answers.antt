@@ -19,31 +19,37 @@ pub go-requires-clause-runs : goal.go-requires-clause-runs
 go-requires-clause-runs g c =
     let k = c.self.inside in
     let suits = rw (← c.self.view_is) at c.requires.mode in
-    let begins = out-begins k.script k.history.items k.core c.share.new.self k.out k.room _ c.self.invariant suits c.share.ensures.state c.share.ensures.ready c.share.ensures.notes in
+    let begins = out-begins k.script k.history.items k.core c.share.new.self k.out k.room _ c.self.invariant suits
+    c.share.ensures.state c.share.ensures.ready c.share.ensures.notes in
     runs true k.script k.history.items c.share.new.self begins
 
 pub go-requires-clause-may : goal.go-requires-clause-may
 go-requires-clause-may g c =
     let k = c.self.inside in
     let suits = rw (← c.self.view_is) at c.requires.mode in
-    let begins = out-begins k.script k.history.items k.core c.share.new.self k.out k.room _ c.self.invariant suits c.share.ensures.state c.share.ensures.ready c.share.ensures.notes in
-    let notes = out-notes k.script k.history.items k.core c.share.new.self k.out k.room _ c.self.invariant suits c.share.ensures.state c.share.ensures.ready c.share.ensures.notes in
+    let begins = out-begins k.script k.history.items k.core c.share.new.self k.out k.room _ c.self.invariant suits
+    c.share.ensures.state c.share.ensures.ready c.share.ensures.notes in
+    let notes = out-notes k.script k.history.items k.core c.share.new.self k.out k.room _ c.self.invariant suits
+    c.share.ensures.state c.share.ensures.ready c.share.ensures.notes in
     may-shared k.script k.history.items c.share.new.self c.share.new.self.notes c.args.actor begins notes (rw (← c.self.view_is) at c.requires.stays)
 
 pub go-requires-clause-can : goal.go-requires-clause-can
 go-requires-clause-can g c =
     let k = c.self.inside in
     let suits = rw (← c.self.view_is) at c.requires.mode in
-    let begins = out-begins k.script k.history.items k.core c.share.new.self k.out k.room _ c.self.invariant suits c.share.ensures.state c.share.ensures.ready c.share.ensures.notes in
+    let begins = out-begins k.script k.history.items k.core c.share.new.self k.out k.room _ c.self.invariant suits
+    c.share.ensures.state c.share.ensures.ready c.share.ensures.notes in
     may true k.script k.history.items c.share.new.self begins c.args.actor (rw (← c.self.view_is) at c.requires.can)
 
 pub go-requires-clause-stays : goal.go-requires-clause-stays
 go-requires-clause-stays g c =
     let k = c.self.inside in
     let suits = rw (← c.self.view_is) at c.requires.mode in
-    let begins = out-begins k.script k.history.items k.core c.share.new.self k.out k.room _ c.self.invariant suits c.share.ensures.state c.share.ensures.ready c.share.ensures.notes in
+    let begins = out-begins k.script k.history.items k.core c.share.new.self k.out k.room _ c.self.invariant suits
+    c.share.ensures.state c.share.ensures.ready c.share.ensures.notes in
     let stays : is_out_actor (after_in true k.script k.history.items) c.args.actor ≡ false = rw (← c.self.view_is) at c.requires.stays in
-    subst (λ (S : State). is_out_actor S c.args.actor ≡ false) (sym begins.state) (out-keeping (after_in true k.script k.history.items) true c.args.actor ∙ stays)
+    subst (λ (S : State). is_out_actor S c.args.actor ≡ false) (sym begins.state)
+    (out-keeping (after_in true k.script k.history.items) true c.args.actor ∙ stays)
 
 pub go-requires-clause-few : goal.go-requires-clause-few
 go-requires-clause-few g c = let room = rw (← c.self.view_is) at c.requires.room in let few = c.self.invariant.few in omega arith
@@ -73,7 +79,9 @@ send-requires-clause-may g c =
     let told = last_is k.history.items items e (length c.as_slice-at.result.now) c.index.result.now c.go.ensures.went.longer at c.index.ensures in
     let found = c.found_in-found.ensures ∙ ap found_in (c.as_slice.ensures.effects ∙ ap (λ (x : Entry). x.effects) told) in
     let short : length k.history.items < 131072 = (let room = rw (← c.self.view_is) at c.requires.room in let few = c.self.invariant.few in omega arith) in
-    out-may-send k.script k.history.items k.core mid k.out k.room _ c.self.invariant suits c.share.ensures.state c.share.ensures.ready c.share.ensures.notes items core c.args.actor can c.go.ensures.went stays c.go.ensures.notes short c.found_in-found.result found
+    out-may-send k.script k.history.items k.core mid k.out k.room _ c.self.invariant suits c.share.ensures.state
+    c.share.ensures.ready c.share.ensures.notes items core c.args.actor can c.go.ensures.went stays c.go.ensures.notes
+    short c.found_in-found.result found
 
 pub send-requires-clause-counted : goal.send-requires-clause-counted
 send-requires-clause-counted g c = c.self.invariant.counted ∙ ap (λ (n : Notes). length n.out) (sym (c.go.ensures.notes ∙ c.share.ensures.notes))
@@ -91,9 +99,13 @@ invariant_of-self g c =
     let e = c.go.ensures.went.entry in
     let told = last_is k.history.items items e (length c.as_slice-at.result.now) c.index.result.now c.go.ensures.went.longer at c.index.ensures in
     let found = c.found_in-found.ensures ∙ ap found_in (c.as_slice.ensures.effects ∙ ap (λ (x : Entry). x.effects) told) in
-    let are = out-notes-next k.script k.history.items k.core mid k.out k.room _ c.self.invariant suits c.share.ensures.state c.share.ensures.ready c.share.ensures.notes items core c.args.actor can c.go.ensures.went stays c.go.ensures.notes c.found_in-found.result found in
+    let are = out-notes-next k.script k.history.items k.core mid k.out k.room _ c.self.invariant suits
+    c.share.ensures.state c.share.ensures.ready c.share.ensures.notes items core c.args.actor can c.go.ensures.went
+    stays c.go.ensures.notes c.found_in-found.result found in
     let notes = subst (λ (n : Notes). AreNotes items (after_in true k.script items) n) (sym c.send.ensures.notes) are in
-    out-kernel k.script k.history.items k.core mid k.out k.room _ c.self.invariant suits c.share.ensures.state c.share.ensures.ready c.share.ensures.notes items core c.args.actor can c.go.ensures.went c.send.new.core c.send.new.out _ c.send.ensures.state c.send.ensures.ready notes c.send.ensures.counted c.go.ensures.capacity
+    out-kernel k.script k.history.items k.core mid k.out k.room _ c.self.invariant suits c.share.ensures.state
+    c.share.ensures.ready c.share.ensures.notes items core c.args.actor can c.go.ensures.went c.send.new.core
+    c.send.new.out _ c.send.ensures.state c.send.ensures.ready notes c.send.ensures.counted c.go.ensures.capacity
 
 pub returns-clause-mode : goal.returns-clause-mode
 returns-clause-mode g c =
@@ -104,7 +116,9 @@ returns-clause-mode g c =
     let mid = c.share.new.self in
     let items = c.go.new.history.items in
     let core = c.go.new.core in
-    out-mode k.script k.history.items k.core mid k.out k.room _ c.self.invariant suits c.share.ensures.state c.share.ensures.ready c.share.ensures.notes items core c.args.actor can c.go.ensures.went c.send.new.core c.send.ensures.state
+    out-mode k.script k.history.items k.core mid k.out k.room _ c.self.invariant suits c.share.ensures.state
+    c.share.ensures.ready c.share.ensures.notes items core c.args.actor can c.go.ensures.went c.send.new.core
+    c.send.ensures.state
 
 pub returns-clause-entry : goal.returns-clause-entry
 returns-clause-entry g c =
@@ -119,12 +133,16 @@ returns-clause-entry g c =
     let e = c.go.ensures.went.entry in
     let told = last_is k.history.items items e (length c.as_slice-at.result.now) c.index.result.now c.go.ensures.went.longer at c.index.ensures in
     let found = c.found_in-found.ensures ∙ ap found_in (c.as_slice.ensures.effects ∙ ap (λ (x : Entry). x.effects) told) in
-    rw (← c.self.view_is) (out-sends k.script k.history.items k.core mid k.out k.room _ c.self.invariant suits c.share.ensures.state c.share.ensures.ready c.share.ensures.notes items core c.args.actor can c.go.ensures.went stays c.go.ensures.notes c.found_in-found.result _ found c.send.ensures.slip)
+    rw (← c.self.view_is) (out-sends k.script k.history.items k.core mid k.out k.room _ c.self.invariant suits
+    c.share.ensures.state c.share.ensures.ready c.share.ensures.notes items core c.args.actor can c.go.ensures.went
+    stays c.go.ensures.notes c.found_in-found.result _ found c.send.ensures.slip)
 
 pub returns-clause-notes : goal.returns-clause-notes
 returns-clause-notes g c =
     let core = c.go.new.core in
-    rw (← c.self.view_is, c.send.ensures.slip) (c.send.ensures.notes ∙ ap (λ (n : Notes). notes_after (slip_after c.found_in-found.result core.notes) n) (c.go.ensures.notes ∙ c.share.ensures.notes))
+    rw (← c.self.view_is, c.send.ensures.slip)
+    (c.send.ensures.notes ∙ ap (λ (n : Notes). notes_after (slip_after c.found_in-found.result core.notes) n)
+    (c.go.ensures.notes ∙ c.share.ensures.notes))
 
 pub returns-clause-legal : goal.returns-clause-legal
 returns-clause-legal g c =
@@ -135,7 +153,8 @@ returns-clause-legal g c =
     let mid = c.share.new.self in
     let items = c.go.new.history.items in
     let core = c.go.new.core in
-    (out-follows k.script k.history.items k.core mid k.out k.room _ c.self.invariant suits c.share.ensures.state c.share.ensures.ready c.share.ensures.notes items core c.args.actor can c.go.ensures.went).legal
+    (out-follows k.script k.history.items k.core mid k.out k.room _ c.self.invariant suits c.share.ensures.state
+    c.share.ensures.ready c.share.ensures.notes items core c.args.actor can c.go.ensures.went).legal
 
 pub returns-clause-safe : goal.returns-clause-safe
 returns-clause-safe g c = legal_safety true c.self.inside.script c.go.new.history.items c.self.invariant.stands.valid (returns-clause-legal g c)

@@ -10,7 +10,9 @@ invariant_of-self g c =
     let kept = c.self.invariant.kept in
     let p = (g.W.RefWords.slip c.args.note).place in
     let gone = rw (← c.self.view_is) at c.requires.gone in
-    let counts = c.take_back.ensures.counts ∙ dropped c.take_back.result (slice_index_or old.objects.rows p None) old.objects.counts p c.take_back.ensures.held.0 gone in
+    let counts = c.take_back.ensures.counts
+    ∙ dropped c.take_back.result (slice_index_or old.objects.rows p None) old.objects.counts p
+    c.take_back.ensures.held.0 gone in
     record {
       kept = record { counts = rw counts kept.counts; tied = kept.tied; numbered = kept.numbered };
       size = c.self.invariant.size;

@@ -12,7 +12,8 @@ use Rattle.kernel_tables.proofs.Performing.{performed_one, still_kept}
 use Rattle.kernel_tables.proofs.kernel_core.Core.open_back.Goals as goal
 
 -- the move leaves the choice as it was
-runs_chosen : {W N : Type 0} (script : Script) (t : ObjNo) (m : Move) (old new : Tables W N) → new.mode ≡ old.mode → MoveRuns script t m (state_of old) → MoveRuns script t m (chosen_state old new)
+runs_chosen : {W N : Type 0} (script : Script) (t : ObjNo) (m : Move) (old new : Tables W N) → new.mode ≡ old.mode
+    → MoveRuns script t m (state_of old) → MoveRuns script t m (chosen_state old new)
 runs_chosen script t m old new same runs = subst (MoveRuns script t m) (sym (ap (λ (mode : Mode). keeping mode.keep (state_of old)) same)) runs
 
 pub arrive_touched-requires-clause-known : goal.arrive_touched-requires-clause-known
@@ -41,7 +42,9 @@ returns-clause-performed g c =
     let asked = (rw (← c.self.view_is) at c.requires.runs) c.open_noted.ensures.was_out in
     let runs = runs_chosen c.args.script.now c.args.thread m c.self.inside.tables c.open_noted.new.tables moved.mode asked in
     let follow = rw c.touched.ensures at c.arrive_touched.ensures.queues in
-    rw (← c.self.view_is) (rw (c.push.ensures, c.requires.empty) (performed_one c.args.script.now c.args.thread m c.self.inside.tables c.open_noted.new.tables c.self.inside.ready c.self.inside.ready c.arrive_touched.new.ready [] runs moved (λ rank qs ready. ready) follow))
+    rw (← c.self.view_is) (rw (c.push.ensures, c.requires.empty)
+    (performed_one c.args.script.now c.args.thread m c.self.inside.tables c.open_noted.new.tables c.self.inside.ready
+    c.self.inside.ready c.arrive_touched.new.ready [] runs moved (λ rank qs ready. ready) follow))
 
 pub returns-clause-notes : goal.returns-clause-notes
 returns-clause-notes g c = rw (← c.self.view_is) (c.open_noted.ensures.moved c.args.thread).notes

@@ -32,8 +32,13 @@ tell-requires-clause-few g c =
     let next = next_item c.as_slice-change-items.result.now c.loop-change.change-index m c.loop-change-test.true c.change-item.is in
     let way = rw next at c.loop-change.invariant.way in
     let once : total closing_bit c.as_slice-change-items.result.now ≤ 1 = rw c.as_slice-change-items.ensures.moves (rw (← c.self.view_is) at c.requires.once) in
-    let few : (keep : Bool) → length c.args.effects.now + length (tell c.args.thread c.as_slice-change-items.result.now (keeping keep (state_of c.self.inside.tables))) ≤ 4 = rw c.as_slice-change-items.ensures.moves (rw (← c.self.view_is) at c.requires.few) in
-    let here : length c.loop-change.effects + length (told m S) ≤ 4 = way_few c.args.script.now c.args.thread _ (state_of c.self.inside.tables) c.self.inside.ready c.args.effects.now m _ S c.loop-change.ready c.loop-change.effects once way few S.mode.keep (λ none. refl) in
+    let few : (keep : Bool) → length c.args.effects.now + length
+    (tell c.args.thread c.as_slice-change-items.result.now (keeping keep (state_of c.self.inside.tables))) ≤ 4 =
+    rw c.as_slice-change-items.ensures.moves (rw (← c.self.view_is) at c.requires.few) in
+    let here : length c.loop-change.effects + length (told m S) ≤ 4 =
+    way_few c.args.script.now c.args.thread _
+    (state_of c.self.inside.tables) c.self.inside.ready c.args.effects.now m _ S c.loop-change.ready
+    c.loop-change.effects once way few S.mode.keep (λ none. refl) in
     let whole = ap length (told_dead m S) in
     let sum = length-append (told_alive m S) (dead_told (dead_by m S)) in
     omega arith
@@ -45,8 +50,12 @@ make_move-dead-requires-clause-can g c =
     let next = next_item c.as_slice-change-items.result.now c.loop-change.change-index m c.loop-change-test.true c.change-item.is in
     let way = rw next at c.loop-change.invariant.way in
     let once : total closing_bit c.as_slice-change-items.result.now ≤ 1 = rw c.as_slice-change-items.ensures.moves (rw (← c.self.view_is) at c.requires.once) in
-    let go : (keep : Bool) → MovesGo c.args.script.now c.args.thread c.as_slice-change-items.result.now (keeping keep (state_of c.self.inside.tables)) = rw c.as_slice-change-items.ensures.moves (rw (← c.self.view_is) at c.requires.go) in
-    (way_goes c.args.script.now c.args.thread _ (state_of c.self.inside.tables) c.self.inside.ready c.args.effects.now m _ S c.loop-change.ready c.loop-change.effects once way go S.mode.keep (λ none. refl)).can
+    let go : (keep : Bool) → MovesGo c.args.script.now c.args.thread c.as_slice-change-items.result.now
+    (keeping keep (state_of c.self.inside.tables)) =
+    rw c.as_slice-change-items.ensures.moves (rw (← c.self.view_is) at c.requires.go) in
+    (way_goes c.args.script.now c.args.thread _
+    (state_of c.self.inside.tables) c.self.inside.ready c.args.effects.now m _ S c.loop-change.ready
+    c.loop-change.effects once way go S.mode.keep (λ none. refl)).can
 
 pub make_move-dead-requires-clause-may : goal.make_move-dead-requires-clause-may
 make_move-dead-requires-clause-may g c =
@@ -57,13 +66,19 @@ make_move-dead-requires-clause-may g c =
     let once : total closing_bit c.as_slice-change-items.result.now ≤ 1 = rw c.as_slice-change-items.ensures.moves (rw (← c.self.view_is) at c.requires.once) in
     let unchosen = rw (← c.self.view_is) at c.requires.may.unchosen in
     λ closes. (
-      way_may c.args.script.now c.args.thread _ (state_of c.self.inside.tables) c.self.inside.ready c.args.effects.now m _ S c.loop-change.ready c.loop-change.effects once way unchosen closes,
+      way_may c.args.script.now c.args.thread _
+          (state_of c.self.inside.tables) c.self.inside.ready c.args.effects.now m _ S c.loop-change.ready
+          c.loop-change.effects once way unchosen closes,
       λ o noted. (c.loop-change.invariant.sought o noted).0,
     )
 
 -- the choice that the move left
-leaves : {W N : Type 0} (m : Move) (old new : Tables W N) → new.mode ≡ mode_after (dead_by m (chosen_state old new)) old.mode → closing_bit m ≡ 0 → new.mode.keep ≡ old.mode.keep
-leaves m old new is none = ap (λ (mode : Mode). mode.keep) (is ∙ ap (λ (dead : Option ObjNo). mode_after dead old.mode) (none_dead m (chosen_state old new) none))
+leaves : {W N : Type 0} (m : Move) (old new : Tables W N)
+    → new.mode ≡ mode_after (dead_by m (chosen_state old new)) old.mode → closing_bit m ≡ 0
+    → new.mode.keep ≡ old.mode.keep
+leaves m old new is none =
+    ap (λ (mode : Mode). mode.keep) (is ∙ ap (λ (dead : Option ObjNo). mode_after dead old.mode)
+    (none_dead m (chosen_state old new) none))
 
 pub tell_death-requires : goal.tell_death-requires
 tell_death-requires g c =
@@ -75,8 +90,13 @@ tell_death-requires g c =
     let next = next_item c.as_slice-change-items.result.now c.loop-change.change-index m c.loop-change-test.true c.change-item.is in
     let way = rw next at c.loop-change.invariant.way in
     let once : total closing_bit c.as_slice-change-items.result.now ≤ 1 = rw c.as_slice-change-items.ensures.moves (rw (← c.self.view_is) at c.requires.once) in
-    let few : (keep : Bool) → length c.args.effects.now + length (tell c.args.thread c.as_slice-change-items.result.now (keeping keep (state_of c.self.inside.tables))) ≤ 4 = rw c.as_slice-change-items.ensures.moves (rw (← c.self.view_is) at c.requires.few) in
-    let here : length c.loop-change.effects + length (told m T) ≤ 4 = way_few c.args.script.now c.args.thread _ (state_of c.self.inside.tables) c.self.inside.ready c.args.effects.now m _ S c.loop-change.ready c.loop-change.effects once way few new.mode.keep (leaves m old new c.make_move-dead.ensures.moved.mode) in
+    let few : (keep : Bool) → length c.args.effects.now + length
+    (tell c.args.thread c.as_slice-change-items.result.now (keeping keep (state_of c.self.inside.tables))) ≤ 4 =
+    rw c.as_slice-change-items.ensures.moves (rw (← c.self.view_is) at c.requires.few) in
+    let here : length c.loop-change.effects + length (told m T) ≤ 4 =
+    way_few c.args.script.now c.args.thread _
+    (state_of c.self.inside.tables) c.self.inside.ready c.args.effects.now m _ S c.loop-change.ready
+    c.loop-change.effects once way few new.mode.keep (leaves m old new c.make_move-dead.ensures.moved.mode) in
     let before = ap length c.tell.ensures in
     let so_far = length-append c.loop-change.effects (told_alive m S) in
     let whole = ap length (sym (told_both m old new)) in
@@ -91,8 +111,13 @@ arrive_touched-requires-clause-known g c =
     let next = next_item c.as_slice-change-items.result.now c.loop-change.change-index m c.loop-change-test.true c.change-item.is in
     let way = rw next at c.loop-change.invariant.way in
     let once : total closing_bit c.as_slice-change-items.result.now ≤ 1 = rw c.as_slice-change-items.ensures.moves (rw (← c.self.view_is) at c.requires.once) in
-    let go : (keep : Bool) → MovesGo c.args.script.now c.args.thread c.as_slice-change-items.result.now (keeping keep (state_of c.self.inside.tables)) = rw c.as_slice-change-items.ensures.moves (rw (← c.self.view_is) at c.requires.go) in
-    let goes = way_goes c.args.script.now c.args.thread _ (state_of c.self.inside.tables) c.self.inside.ready c.args.effects.now m _ (state_of old) c.loop-change.ready c.loop-change.effects once way go new.mode.keep (leaves m old new c.make_move-dead.ensures.moved.mode) in
+    let go : (keep : Bool) → MovesGo c.args.script.now c.args.thread c.as_slice-change-items.result.now
+    (keeping keep (state_of c.self.inside.tables)) =
+    rw c.as_slice-change-items.ensures.moves (rw (← c.self.view_is) at c.requires.go) in
+    let goes = way_goes c.args.script.now c.args.thread _
+    (state_of c.self.inside.tables) c.self.inside.ready c.args.effects.now m _
+    (state_of old) c.loop-change.ready c.loop-change.effects once way go new.mode.keep
+    (leaves m old new c.make_move-dead.ensures.moved.mode) in
     subst AreKnown (sym c.make_move-dead.ensures.moved.state) goes.runs.known
 
 pub loop-change-preserved : goal.loop-change-preserved
@@ -107,14 +132,23 @@ loop-change-preserved g c =
     let next = next_item c.as_slice-change-items.result.now c.loop-change.change-index m c.loop-change-test.true c.change-item.is in
     let way = rw next at c.loop-change.invariant.way in
     let once : total closing_bit c.as_slice-change-items.result.now ≤ 1 = rw c.as_slice-change-items.ensures.moves (rw (← c.self.view_is) at c.requires.once) in
-    let go : (keep : Bool) → MovesGo script t c.as_slice-change-items.result.now (keeping keep first) = rw c.as_slice-change-items.ensures.moves (rw (← c.self.view_is) at c.requires.go) in
-    let goes = way_goes script t _ first c.self.inside.ready c.args.effects.now m _ (state_of old) c.loop-change.ready c.loop-change.effects once way go new.mode.keep (leaves m old new moved.mode) in
+    let go : (keep : Bool) → MovesGo script t c.as_slice-change-items.result.now (keeping keep first) =
+    rw c.as_slice-change-items.ensures.moves (rw (← c.self.view_is) at c.requires.go) in
+    let goes = way_goes script t _ first c.self.inside.ready c.args.effects.now m _
+    (state_of old) c.loop-change.ready c.loop-change.effects once way go new.mode.keep (leaves m old new moved.mode) in
     let follow = rw c.touched.ensures at c.arrive_touched.ensures.queues in
-    let one = performed_one script t m old new c.loop-change.ready c.take_out.new.ready c.arrive_touched.new.ready c.loop-change.effects goes.runs moved c.take_out.ensures.queues follow in
+    let one = performed_one script t m old new c.loop-change.ready c.take_out.new.ready c.arrive_touched.new.ready
+    c.loop-change.effects goes.runs moved c.take_out.ensures.queues follow in
     let effects : c.tell_death.new.effects ≡ c.loop-change.effects ++ told m (chosen_state old new) =
-    c.tell_death.ensures ∙ rw (c.tell.ensures, c.make_move-dead.ensures.dead) (append_assoc c.loop-change.effects (told_alive m (state_of old)) (dead_told (dead_by m (chosen_state old new))) ∙ ap (λ (l : List Effect). c.loop-change.effects ++ l) (told_both m old new)) in
+    c.tell_death.ensures
+    ∙ rw (c.tell.ensures, c.make_move-dead.ensures.dead)
+    (append_assoc c.loop-change.effects (told_alive m (state_of old)) (dead_told (dead_by m (chosen_state old new)))
+    ∙ ap (λ (l : List Effect). c.loop-change.effects ++ l) (told_both m old new)) in
     record {
-      way = rw effects (way_goes_on script t _ first c.self.inside.ready c.args.effects.now m _ (state_of old) c.loop-change.ready c.loop-change.effects once way (state_of new) c.arrive_touched.new.ready _ one);
+      way =
+          rw effects (way_goes_on script t _ first c.self.inside.ready c.args.effects.now m _
+          (state_of old) c.loop-change.ready c.loop-change.effects once way
+          (state_of new) c.arrive_touched.new.ready _ one);
       kept = still_kept script t m old new goes.runs c.loop-change.invariant.kept moved;
       size = c.arrive_touched.ensures.size;
       sought = still_sought script t m old new goes.runs moved c.loop-change.invariant.sought;
@@ -126,7 +160,10 @@ returns-clause-performed g c =
     let items = c.as_slice-change-items.result.now in
     let ended = none_left items c.loop-change.change-index c.loop-change-test.false in
     let way = rw ended at c.loop-change.invariant.way in
-    rw (← c.self.view_is) (rw (← c.as_slice-change-items.ensures.moves) (way_ends c.args.script.now c.args.thread items (state_of c.self.inside.tables) (state_of c.loop-change.tables) c.self.inside.ready c.loop-change.ready c.args.effects.now c.loop-change.effects way))
+    rw (← c.self.view_is) (rw (← c.as_slice-change-items.ensures.moves)
+    (way_ends c.args.script.now c.args.thread items (state_of c.self.inside.tables)
+    (state_of c.loop-change.tables) c.self.inside.ready c.loop-change.ready c.args.effects.now c.loop-change.effects
+    way))
 
 pub returns-clause-notes : goal.returns-clause-notes
 returns-clause-notes g c = rw (← c.self.view_is) c.loop-change.invariant.notes

@@ -8,7 +8,8 @@ use Rattle.kernel_tables.proofs.kernel_core.Core.perform.Given as goal
 
 abbrev pub invariant-loop-change : goal.invariant-loop-change
 invariant-loop-change g l = record {
-  way : OnTheWay l.script l.thread l.change-items (state_of l.initial.tables) l.initial.ready l.initial.effects (drop l.change-index l.change-items) (state_of l.tables) l.ready l.effects;
+  way : OnTheWay l.script l.thread l.change-items (state_of l.initial.tables) l.initial.ready l.initial.effects
+      (drop l.change-index l.change-items) (state_of l.tables) l.ready l.effects;
   kept : AreKept l.tables;
   size : l.ready.threads ≡ BOOT_OBJECTS;
   sought : AreSoughtBeside l.thread l.tables.objects.notes (state_of l.tables);

@@ -1,0 +1,14 @@
+use Rattle.std.proofs.Common.{◌≡◌, None}
+use Rattle.std.specs.Prelude.{IsTrue, slice_index, slice_set}
+use Rattle.std.specs.List.{slice_index_or}
+use Rattle.objects.specs.Rows.{is_there}
+use Rattle.kcore.proofs.boot_objects.make_counted.Given as goal
+
+abbrev pub invariant-loop-held : goal.invariant-loop-held
+invariant-loop-held g l = record {
+  rows : l.objects.rows ≡ l.initial.objects.rows;
+  there : IsTrue (is_there (slice_index_or l.objects.rows l.object.0 None));
+  counts : l.objects.counts ≡ slice_set l.initial.objects.counts l.object.0 l._held;
+  last : slice_index l.objects.counts l.object.0 ≡ l._held;
+  notes : l.objects.notes ≡ l.initial.objects.notes;
+}
