@@ -18,10 +18,10 @@ use Rattle.script_words.specs.Fields.{cut_of}
 use Rattle.std.proofs.Common.{◌≡◌, ℕ, ◌+◌, Bool, true, false, not, nat_eq, List, [], ◌∷◌, ◌++◌, length, decimal, Option, Some, None, option_map, refl, sym, ap, subst, ◌∙◌, append_assoc}
 use Rattle.std.proofs.lemmas.Bool.{eqb-true}
 use Rattle.std.proofs.lemmas.List.{append_cancel_right}
-use Rattle.std.specs.Prelude.{IfNone, IfSome, MatchOption}
+use Rattle.std.specs.Prelude.{Err, IfNone, IfOk, IfSome, Ok, Result}
 use Rattle.history_check.specs.DeathText.{tells_death}
 use Rattle.history_check.specs.FirstLines.{Begins, first_lines}
-use Rattle.history_check.specs.Followed.{GoesNowhere, HaveOneFirst, IsFollowed}
+use Rattle.history_check.specs.Followed.{GoesNowhere, HaveOneFirst, IsNextMade}
 use Rattle.history_check.specs.OfLine.{IsOfActor}
 use Rattle.history_check.proofs.Acting.{known_actor, same-step}
 use Rattle.history_check.proofs.Bytes.{all_two, decimal_field, field_byte, free, free_by}
@@ -114,13 +114,13 @@ module _ (script : Script) (history : List Entry) (text line rest : List ℕ) (v
   no_actor tells e more next one = let clash : ◌≡◌ {A = Option Actor} None (Some e.actor) = told_actor None tells e more next one in absurd (cc)
 
   -- where its actor may not act
-  pub not_legal : (actor : Actor) → ((other : Actor) → IsOfActor line other → Some actor ≡ Some other) → (CanAct script S actor → ⊥) → GoesNowhere script history text
+  not_legal : (actor : Actor) → ((other : Actor) → IsOfActor line other → Some actor ≡ Some other) → (CanAct script S actor → ⊥) → GoesNowhere script history text
   not_legal actor tells cannot e more next one =
       let same : actor ≡ e.actor = some_is actor e.actor (told_actor (Some actor) tells e more next one) in
       cannot (subst (CanAct script S) (sym same) next.able)
 
   -- and where it doesn't begin with the line of the entry that its actor makes
-  pub other_entry : (actor : Actor) (made : Entry) (told : Bool) → ((other : Actor) → IsOfActor line other → Some actor ≡ Some other) → told ≡ tells_death line → made ≡ entry_by script (keeping (not told) S) (length history + 1) actor → IsStep made.step → (Begins text (entry_line made) → ⊥) → GoesNowhere script history text
+  other_entry : (actor : Actor) (made : Entry) (told : Bool) → ((other : Actor) → IsOfActor line other → Some actor ≡ Some other) → told ≡ tells_death line → made ≡ entry_by script (keeping (not told) S) (length history + 1) actor → IsStep made.step → (Begins text (entry_line made) → ⊥) → GoesNowhere script history text
   other_entry actor made told tells death by named other e more next one =
       let is : made ≡ entry_by script (keeping (not (tells_death line)) S) (length history + 1) actor = by ∙ ap (λ (b : Bool). entry_by script (keeping (not b) S) (length history + 1) actor) death in
       let same : actor ≡ e.actor = some_is actor e.actor (told_actor (Some actor) tells e more next one) in
@@ -135,12 +135,33 @@ module _ (script : Script) (history : List Entry) (text line rest : List ℕ) (v
       let begins : one.line ≡ entry_line made = own_line text line rest e more cut one e_named ∙ ap entry_line entry in
       other (record { rest = here.rest; whole = here.whole ∙ ap (λ (xs : List ℕ). xs ++ here.rest) begins })
 
--- what stands behind the line of the entry that was made, where a text begins with that
-pub if_followed : {A : Type 0} (N : Type 0) (behind : A → List ℕ) (old new : PlainView) (text : List ℕ) (entry : Entry) (found : Option A) → new.history ≡ old.history ++ entry ∷ [] → new.shared ≡ true → IsShared new.script new.history → IsStep entry.step → MatchOption found N (λ rest. text ≡ entry_line entry ++ behind rest) → IfSome found (λ rest. IsFollowed old new text (behind rest))
-if_followed N behind old new text entry None history shared legal named is = tt
-if_followed N behind old new text entry (Some rest) history shared legal named is = record { entry = entry; history = history; shared = shared; legal = legal; named = named; line = is }
+-- what the machine answered of that actor: the entry that it made
+abbrev Made : Type 0
+Made = PlainView × Entry
 
--- and where it doesn't
-pub if_other : {A : Type 0} (N M : Type 0) (P : A → Type 0) (found : Option A) → (N → M) → MatchOption found N P → IfNone found M
-if_other N M P None to is = to is
-if_other N M P (Some rest) to is = tt
+pub next_made : {E : Type 0} (made : Result (Option Made) E) (plain : PlainView) (text line rest : List ℕ) (actor : Actor) (told : Bool)
+    → IsWellFormed plain.script → Some (line, rest) ≡ cut_of 10 text
+    → ((other : Actor) → IsOfActor line other → Some actor ≡ Some other) → told ≡ tells_death line
+    → IfOk made (λ answer. IfSome answer (λ (m : Made). m.0.script ≡ plain.script))
+    → IfOk made (λ answer. IfSome answer (λ (m : Made). (m.0.history ≡ plain.history ++ m.1 ∷ []) × (m.0.shared ≡ true)
+    × (m.1 ≡ entry_by plain.script (keeping (not told) (after_in true plain.script plain.history)) (length plain.history + 1) actor)))
+    → IfOk made (λ answer. IfSome answer (λ (m : Made). IsShared m.0.script m.0.history))
+    → IfOk made (λ answer. IfSome answer (λ (m : Made). IsNextMade plain text m.0 m.1))
+next_made (Err error) plain text line rest actor told valid cut tells death script entry legal = tt
+next_made (Ok None) plain text line rest actor told valid cut tells death script entry legal = tt
+next_made (Ok (Some m)) plain text line rest actor told valid cut tells death script entry legal = record {
+  script = script;
+  history = entry.0;
+  shared = entry.1;
+  legal = legal;
+  only = λ named other. other_entry plain.script plain.history text line rest valid cut actor m.1 told tells death entry.2 named other;
+}
+
+-- and that the actor may not act
+pub next_barred : {E : Type 0} (made : Result (Option Made) E) (plain : PlainView) (text line rest : List ℕ) (actor : Actor)
+    → IsWellFormed plain.script → Some (line, rest) ≡ cut_of 10 text → ((other : Actor) → IsOfActor line other → Some actor ≡ Some other)
+    → IfOk made (λ answer. IfNone answer (CanAct plain.script (after_in true plain.script plain.history) actor → ⊥))
+    → IfOk made (λ answer. IfNone answer (GoesNowhere plain.script plain.history text))
+next_barred (Err error) plain text line rest actor valid cut tells cannot = tt
+next_barred (Ok (Some m)) plain text line rest actor valid cut tells cannot = tt
+next_barred (Ok None) plain text line rest actor valid cut tells cannot = not_legal plain.script plain.history text line rest valid cut actor tells cannot

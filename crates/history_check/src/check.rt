@@ -10,9 +10,10 @@ ghost use Rattle.history_check.specs.Checks.{IsTextOf};
 ghost use Rattle.history_check.specs.Legality.{IsAnswer, IsEnd, IsIllegalText, IsLegalText};
 ghost use Rattle.history_check.specs.Rows.{lines_left};
 
-use crate::pieces::behind;
+use crate::pieces::{behind, behind_entry};
 use crate::rows::bad_row;
-use crate::step::behind_step;
+use crate::step::{let_go, next_entry};
+use entry_log::known_entry;
 use plain_machine::Plain;
 use script_types::Script;
 use std::alloc::Global;
@@ -42,29 +43,47 @@ fn check_end(plain: &Plain, text: &[u8], entries: u32) -> Checked
 }
 
 /// Checks a text on a machine on which nothing happened yet.
-fn check_text(plain: &mut Plain, text: &[u8]) -> Checked
-    requires valid { IsWellFormed plain.old.script }
-    requires new { plain.old.history ≡ [] }
-    ensures answer { IsAnswer plain.old.script text.now result }
+fn check_text(fresh: Plain, text: &[u8]) -> Checked
+    requires valid { IsWellFormed fresh.script }
+    requires new { fresh.history ≡ [] }
+    ensures answer { IsAnswer fresh.script text.now result }
     ensures one { (entries : ℕ) → result ≡ Checked.Legal entries → (one : List Entry) → (other : List Entry)
-        → IsTextOf plain.old.script one text.now → IsTextOf plain.old.script other text.now → one ≡ other }
+        → IsTextOf fresh.script one text.now → IsTextOf fresh.script other text.now → one ≡ other }
 {
+    let mut plain = fresh;
     let mut rest = text;
     for entries in 0..Limits::SHARED_HISTORY as u32 {
         if let Some(rows) = behind(rest, b"objects\n") {
-            return check_end(plain, rows, entries);
+            let checked = check_end(&plain, rows, entries);
+            let_go(plain);
+            return checked;
         }
-        rest = match behind_step(plain, rest) {
-            Ok(Some(rest)) => rest,
+        match next_entry(plain, rest) {
+            Ok(Some((next, entry))) => {
+                known_entry(&entry);
+                let Some(left) = behind_entry(rest, &entry) else {
+                    let_go(next);
+                    return Checked::Illegal { line: entries + 1 };
+                };
+                plain = next;
+                rest = left;
+            }
             Ok(None) => return Checked::Illegal { line: entries + 1 },
             Err(_) => return Checked::NoMemory,
-        };
+        }
     }
     match behind(rest, b"objects\n") {
-        Some(rows) => check_end(plain, rows, Limits::SHARED_HISTORY as u32),
-        None => Checked::Illegal {
-            line: Limits::SHARED_HISTORY as u32 + 1,
-        },
+        Some(rows) => {
+            let checked = check_end(&plain, rows, Limits::SHARED_HISTORY as u32);
+            let_go(plain);
+            checked
+        }
+        None => {
+            let_go(plain);
+            Checked::Illegal {
+                line: Limits::SHARED_HISTORY as u32 + 1,
+            }
+        }
     }
 }
 
@@ -92,7 +111,7 @@ pub fn check_history(alloc: Global, script: Script, text: &[u8]) -> Checked
         → (result ≡ Checked.Legal (length history)) ⊎ (result ≡ Checked.NoMemory) }
 {
     match Plain::boot(alloc, script) {
-        Ok(mut plain) => check_text(&mut plain, text),
+        Ok(plain) => check_text(plain, text),
         Err(_) => Checked::NoMemory,
     }
 }

@@ -22,7 +22,8 @@ use Rattle.machine.specs.declared.state.State.{State}
 use Rattle.machine.specs.Arrived.{arrived_by_entry, arrived_in, arrived_next}
 use Rattle.machine.specs.Boot.{boot, boot_in, ready_at_boot}
 use Rattle.machine.specs.History.{after_in, choosing, entry_by, is_deathless, keeping, next, next_by, CanAct, IsLegalIn, IsNext}
-use Rattle.plain_machine.specs.PlainView.{IsPlain, PlainView}
+use Rattle.plain_machine.specs.PlainView.{IsPlain}
+use Rattle.plain_machine.specs.SharedActions.{IsMade, choice_made}
 use Rattle.plain_machine.specs.Allowed.{IsSmall, TellsFew, AllowsAction}
 use Rattle.state_rows.specs.Deferred.{next_immediate}
 use Rattle.machine.specs.declared.plan.Body.TheVariants.{Interrupt}
@@ -167,11 +168,8 @@ plain_goes_on script history new S T qs list slot place e declared plain whole a
 pub slot_whole : (script : Script) (S T : State) (actor : Actor) → S.mode.shared ≡ false → T ≡ next script S actor → T.mode.shared ≡ false
 slot_whole script S T actor whole did = ap (λ (s : State). s.mode.shared) did ∙ (ap (λ (m : Mode). m.shared) (mode-next script S actor) ∙ whole)
 
--- a machine on which callers may share the kernel, in a state with a choice
-abbrev pub choice_made : Bool → State → State
-choice_made keep S = record S { mode = record { shared = true; keep = keep } }
-
-pub record IsSplit (script : Script) (history : List Entry) (S : State) (qs : List ObjNo) : Type 0 where
+-- a machine on which callers may share the kernel
+record IsSplit (script : Script) (history : List Entry) (S : State) (qs : List ObjNo) : Type 0 where
   pub legal : IsLegalIn true script history
   pub state : (keep : Bool) → choice_made keep S ≡ keeping keep (after_in true script history)
   pub ready : qs ≡ arrived_in true script history
@@ -192,33 +190,26 @@ split_plain true script history S qs plain mode split =
 split_plain false script [] S qs plain mode split = record { legal = tt; state = λ keep. ap (choice_made keep) plain.state; ready = plain.ready }
 split_plain false script (x ∷ xs) S qs plain mode split = absurd (not_empty x xs split)
 
--- what a caller sees of the machine says so
-abbrev pub MayBeSplit : PlainView → Type 0
-MayBeSplit v = IsTrue (v.shared || nat_eq (length v.history) 0)
-
-pub split_of : (script : Script) (history : List Entry) (S : State) (qs : List ObjNo) (v : PlainView) → IsPlain script history S qs → record { script = script; history = history; shared = S.mode.shared } ≡ v → MayBeSplit v → IsSplit script history S qs
-split_of script history S qs v plain seen split = split_plain S.mode.shared script history S qs plain refl (subst MayBeSplit (sym seen) split)
-
 -- such a state is well-formed with the ready list
-pub formed_split : (script : Script) (history : List Entry) (S : State) (qs : List ObjNo) (keep : Bool) → IsWellFormedScript script → IsSplit script history S qs → IsWellFormed script (choice_made keep S) qs
+formed_split : (script : Script) (history : List Entry) (S : State) (qs : List ObjNo) (keep : Bool) → IsWellFormedScript script → IsSplit script history S qs → IsWellFormed script (choice_made keep S) qs
 formed_split script history S qs keep valid split =
     let formed = well_formed-keeping script (after_in true script history) (arrived_in true script history) keep (well_formed-after true script history valid) in
     subst (λ (s : State). IsWellFormed script s qs) (sym (split.state keep)) (subst (IsWellFormed script (keeping keep (after_in true script history))) (sym split.ready) formed)
 
 -- who may act there may act after the history, and the other way round
-pub able_split : (script : Script) (history : List Entry) (S : State) (qs : List ObjNo) (keep : Bool) (actor : Actor) → IsSplit script history S qs → CanAct script (choice_made keep S) actor → CanAct script (after_in true script history) actor
+able_split : (script : Script) (history : List Entry) (S : State) (qs : List ObjNo) (keep : Bool) (actor : Actor) → IsSplit script history S qs → CanAct script (choice_made keep S) actor → CanAct script (after_in true script history) actor
 able_split script history S qs keep actor split able = able-kept script (after_in true script history) keep actor (subst (λ (s : State). CanAct script s actor) (split.state keep) able)
 
-pub split_able : (script : Script) (history : List Entry) (S : State) (qs : List ObjNo) (keep : Bool) (actor : Actor) → IsSplit script history S qs → CanAct script (after_in true script history) actor → CanAct script (choice_made keep S) actor
+split_able : (script : Script) (history : List Entry) (S : State) (qs : List ObjNo) (keep : Bool) (actor : Actor) → IsSplit script history S qs → CanAct script (after_in true script history) actor → CanAct script (choice_made keep S) actor
 split_able script history S qs keep actor split able = subst (λ (s : State). CanAct script s actor) (sym (split.state keep)) (able-keeping script (after_in true script history) keep actor able)
 
 -- the entry is the definitions', with the choice
-pub shares_told : (script : Script) (history : List Entry) (S : State) (qs : List ObjNo) (actor : Actor) (keep : Bool) (place : ℕ) (e : Entry) → IsSplit script history S qs → place ≡ length history + 1 → e ≡ entry_by script (choice_made keep S) place actor
+shares_told : (script : Script) (history : List Entry) (S : State) (qs : List ObjNo) (actor : Actor) (keep : Bool) (place : ℕ) (e : Entry) → IsSplit script history S qs → place ≡ length history + 1 → e ≡ entry_by script (choice_made keep S) place actor
     → e ≡ entry_by script (keeping keep (after_in true script history)) (length history + 1) actor
 shares_told script history S qs actor keep place e split at told = told ∙ (ap (λ (n : ℕ). entry_by script (choice_made keep S) n actor) at ∙ ap (λ (s : State). entry_by script s (length history + 1) actor) (split.state keep))
 
 -- it goes on by what an actor does that may act
-pub plain_shares : (script : Script) (history new : List Entry) (S T : State) (qs list : List ObjNo) (actor : Actor) (keep : Bool) (place : ℕ) (e : Entry)
+plain_shares : (script : Script) (history new : List Entry) (S T : State) (qs list : List ObjNo) (actor : Actor) (keep : Bool) (place : ℕ) (e : Entry)
     → IsWellFormedScript script → IsSplit script history S qs → CanAct script (choice_made keep S) actor → place ≡ length history + 1
     → T ≡ next script (choice_made keep S) actor → list ≡ arrived_next script (choice_made keep S) actor qs → e ≡ entry_by script (choice_made keep S) place actor → new ≡ history ++ e ∷ []
     → IsPlain script new (keeping (is_deathless e.effects) T) list
@@ -237,17 +228,36 @@ plain_shares script history new S T qs list actor keep place e valid split able 
     (left ∙ (ap (λ (s : State). arrived_next script s actor qs) (split.state keep) ∙ (ap (arrived_next script (keeping keep A) actor) split.ready ∙ (tells.ready Q ∙ ap (λ (s : State). arrived_next script s actor Q) (sym same)))))
     (pushed ∙ ap (λ (x : Entry). history ++ x ∷ []) is)
 
--- and callers share the kernel from then on
-pub shares_mode : (script : Script) (S T : State) (actor : Actor) (keep : Bool) → T ≡ next script (choice_made keep S) actor → T.mode.shared ≡ true
-shares_mode script S T actor keep did = ap (λ (s : State). s.mode.shared) did ∙ ap (λ (m : Mode). m.shared) (mode-next script (choice_made keep S) actor)
+-- an answer isn't both
+unable : (able : Bool) → able ≡ false → IsTrue able → ⊥
+unable able not is = cc
 
--- what happened so far is a shared history then
-pub shares_legal : (script : Script) (history new : List Entry) (S T : State) (qs list : List ObjNo) (actor : Actor) (keep : Bool) (place : ℕ) (e : Entry)
-    → IsWellFormedScript script → IsSplit script history S qs → CanAct script (choice_made keep S) actor → place ≡ length history + 1
-    → T ≡ next script (choice_made keep S) actor → list ≡ arrived_next script (choice_made keep S) actor qs → e ≡ entry_by script (choice_made keep S) place actor → new ≡ history ++ e ∷ []
-    → IsLegalIn true script new
-shares_legal script history new S T qs list actor keep place e valid split able at did left told pushed =
-    subst (λ (b : Bool). IsLegalIn b script new) (shares_mode script S T actor keep did) (plain_shares script history new S T qs list actor keep place e valid split able at did left told pushed).legal
+-- an action on a machine that callers may share
+module _ (script : Script) (history : List Entry) (S : State) (qs : List ObjNo) (actor : Actor) (keep : Bool) (plain : IsPlain script history S qs) (may : IsTrue (S.mode.shared || nat_eq (length history) 0)) where
+  split : IsSplit script history S qs
+  split = split_plain S.mode.shared script history S qs plain refl may
+
+  -- it is allowed, and so is the question who may act
+  pub shares_formed : IsWellFormed script (choice_made keep S) qs
+  shares_formed = formed_split script history S qs keep plain.valid split
+
+  pub shares_allowed : AllowsAction script (choice_made keep S)
+  shares_allowed = allows_action script (choice_made keep S) (formed_is_shaped script plain.valid) shares_formed.rows
+
+  -- the machine goes on by it
+  pub shares_made : (new : List Entry) (T U : State) (list : List ObjNo) (place : ℕ) (e told : Entry) → CanAct script (choice_made keep S) actor → place ≡ length history + 1
+      → T ≡ next script (choice_made keep S) actor → U ≡ keeping (is_deathless e.effects) T → list ≡ arrived_next script (choice_made keep S) actor qs → e ≡ entry_by script (choice_made keep S) place actor → new ≡ history ++ e ∷ [] → told ≡ e
+      → IsMade script history new actor keep U list told
+  shares_made new T U list place e told able at did after left is pushed same = record {
+    plain = subst (λ (s : State). IsPlain script new s list) (sym after) (plain_shares script history new S T qs list actor keep place e plain.valid split able at did left is pushed);
+    shared = ap (λ (s : State). s.mode.shared) after ∙ (ap (λ (s : State). s.mode.shared) did ∙ ap (λ (m : Mode). m.shared) (mode-next script (choice_made keep S) actor));
+    history = pushed ∙ ap (λ (x : Entry). history ++ x ∷ []) (sym same);
+    entry = same ∙ shares_told script history S qs actor keep place e split at is;
+  }
+
+  -- and where the actor may not act nothing is made
+  pub shares_barred : (able : Bool) → able ≡ false → (CanAct script (choice_made keep S) actor → IsTrue able) → CanAct script (after_in true script history) actor → ⊥
+  shares_barred able not only can = unable able not (only (split_able script history S qs keep actor split can))
 
 -- at boot nothing has happened, and callers don't share the kernel
 pub plain_boot : (script : Script) (S : State) (qs : List ObjNo) → IsWellFormedScript script → S ≡ boot script → qs ≡ ready_at_boot script → IsPlain script [] S qs

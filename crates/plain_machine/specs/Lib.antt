@@ -4,3 +4,4 @@ pub mod Courses
 pub mod Deaths
 pub mod KernelThreadScripts
 pub mod PlainView
+pub mod SharedActions

@@ -1,6 +1,7 @@
 //! The plain machine: the definitions, run over plain lists.
 #![tactic(auto)]
 
+mod acted;
 mod action;
 mod arrivals;
 mod choice;

@@ -1,22 +1,20 @@
 //! The plain machine: the definitions, run over plain lists.
-ghost use Rattle.std.specs.Prelude.{◌≡◌, ◌+◌, ◌<◌, ◌++◌, ◌||◌, nat_eq, true, false, IsTrue, [], ◌∷◌, List, length, IfOk, OnOk, OnErr};
-ghost use Rattle.sym_base.specs.declared.number.ObjNo.{ObjNo};
+ghost use Rattle.std.specs.Prelude.{◌≡◌, ◌+◌, ◌<◌, ◌++◌, ◌||◌, nat_eq, true, false, IsTrue, [], ◌∷◌, List, length, IfOk, IfNone, IfSome, OnOk, OnErr};
 ghost use Rattle.script_types.specs.Source.{IsWellFormed};
 ghost use Rattle.machine.specs.FinalRows.{rows_from, IsNextRow};
-ghost use Rattle.script_types.specs.Shape.{IsShaped};
-ghost use Rattle.machine.specs.Arrived.{arrived, arrived_next};
-ghost use Rattle.machine.specs.History.{after, after_in, next, entry_by, keeping, CanAct, IsLegalIn, IsShared};
+ghost use Rattle.machine.specs.Arrived.{arrived};
+ghost use Rattle.machine.specs.History.{after, after_in, entry_by, keeping, CanAct, IsLegalIn, IsShared};
 ghost use Rattle.machine.specs.Run.{slot_actor};
 ghost use Rattle.machine.specs.Slots.{IsDeclared};
-ghost use Rattle.plain_machine.specs.Allowed.{AllowsAction};
 ghost use Rattle.plain_machine.specs.Answered.{IfEntry, IfNotLegal};
+ghost use Rattle.plain_machine.specs.PlainView.{PlainView};
 
+use crate::acted::{acted, acted_shared};
 use crate::choice::chosen;
 use crate::final_rows;
-use crate::stepped::{Stepped, can_act, copied, is_deathless};
-use crate::transition::transition;
+use crate::stepped::Stepped;
 use entry_log::{Actor, Entry, FinalRow};
-use machine::{Mode, State, entry_of, ready_at_boot, state_at_boot};
+use machine::{State, ready_at_boot, state_at_boot};
 use script_types::{Script, Slot};
 use std::alloc::Global;
 use std::marker::Model;
@@ -61,25 +59,6 @@ fn set_state(state: &mut State, ready: &mut Items<ThreadNo>, other: State, list:
 {
     *state = other;
     *ready = list;
-}
-
-/// What an actor does in a state, with a copy of its ready list: both after it, and the entry at this place.
-fn acted(
-    alloc: Global,
-    script: &Script,
-    state: State,
-    ready: &Items<ThreadNo>,
-    place: u32,
-    actor: Actor,
-) -> Result<(State, Items<ThreadNo>, Entry), NoMemory>
-    requires shaped { IsShaped script.now }
-    requires allowed { AllowsAction script.now state }
-    ensures { IfOk result (λ (made : State × List ObjNo × Entry). made ≡ (next script.now state actor, arrived_next script.now state actor ready.now, entry_by script.now state place actor)) }
-{
-    let mut after = state;
-    let mut list = ready.copied(alloc)?;
-    let outcome = transition(alloc, script, &mut after, &mut list, actor)?;
-    Ok((after, list, entry_of(place, actor, outcome)))
 }
 
 impl Plain {
@@ -138,25 +117,57 @@ impl Plain {
         ensures refused { IfOk result (IfNotLegal (self.new ≡ self.old × (CanAct self.old.script (after_in true self.old.script self.old.history) actor → ⊥))) }
         ensures err { OnErr result (self.new ≡ self.old) }
     {
-        let place = self.history.len() as u32 + 1;
-        let mut before = self.state.copied(self.alloc)?;
-        before.mode = Mode { shared: true, keep };
-        if !can_act(&self.script, &before, self.ready.as_slice(), actor) {
-            return Ok(Stepped::NotLegal);
-        }
-        let (mut state, ready, entry) = acted(
+        let before = self.state.copied(self.alloc)?;
+        let made = acted_shared(
             self.alloc,
             &self.script,
+            &mut self.history,
             before,
             &self.ready,
-            place,
             actor,
+            keep,
         )?;
-        state.mode.keep = is_deathless(entry.effects.as_slice());
-        let told = copied(&entry);
-        self.history.push(entry)?;
-        set_state(&mut self.state, &mut self.ready, state, ready);
-        Ok(Stepped::Entry(told))
+        match made {
+            Some((state, ready, entry)) => {
+                set_state(&mut self.state, &mut self.ready, state, ready);
+                Ok(Stepped::Entry(entry))
+            }
+            None => Ok(Stepped::NotLegal),
+        }
+    }
+
+    /// One atomic action of this actor where callers share the kernel, as `shared` makes it, but without a copy of the state: the
+    /// machine goes on as another one, which has one entry more, and that entry is answered too. None where the actor may not act. At
+    /// None and `Err` there is no machine any more.
+    pub fn goes_on(self, actor: Actor, keep: bool) -> Result<Option<(Plain, Entry)>, NoMemory>
+        requires split { IsTrue (self.shared || nat_eq (length self.history) 0) }
+        requires few { length self.history < 4294967295 }
+        ensures script { IfOk result (λ answer. IfSome answer (λ (made : PlainView × Entry). made.0.script ≡ self.script)) }
+        ensures entry { IfOk result (λ answer. IfSome answer (λ (made : PlainView × Entry). (made.0.history ≡ self.history ++ made.1 ∷ []) × (made.0.shared ≡ true) × (made.1 ≡ entry_by self.script (keeping keep (after_in true self.script self.history)) (length self.history + 1) actor))) }
+        ensures legal { IfOk result (λ answer. IfSome answer (λ (made : PlainView × Entry). IsShared made.0.script made.0.history)) }
+        ensures refused { IfOk result (λ answer. IfNone answer (CanAct self.script (after_in true self.script self.history) actor → ⊥)) }
+    {
+        let Plain {
+            alloc,
+            script,
+            state,
+            ready,
+            mut history,
+        } = self;
+        let made = acted_shared(alloc, &script, &mut history, state, &ready, actor, keep)?;
+        match made {
+            Some((state, ready, entry)) => {
+                let plain = Plain {
+                    alloc,
+                    script,
+                    state,
+                    ready,
+                    history,
+                };
+                Ok(Some((plain, entry)))
+            }
+            None => Ok(None),
+        }
     }
 
     /// What happened so far, in order. It is a legal history of the script, as callers make it who share the kernel or as one makes
