@@ -98,6 +98,7 @@ fn write_entry<K: Sink>(
 }
 
 /// Writes the line of each entry that the detail shows, by way of one buffer.
+#[inline(never)]
 fn write_entries<K: Sink>(
     sink: &mut K,
     line: &mut Line,

@@ -65,7 +65,8 @@ module _ (script : Script) (shaped : IsShaped script) where
   abbrev AreFoundMade : State → Type 0
   AreFoundMade S = (u o : ObjNo) → 0 < seeks o (thread_of S u) → o.0 < length S.references.objects
 
-  found-made : (S : State) (place : ℕ) (es : List Entry) → Stands script S place es → IsSoundRun script S es → AreFoundMade S → AreFoundMade (after_from script S es)
+  found-made : (S : State) (place : ℕ) (es : List Entry) → Stands script S place es → IsSoundRun script S es
+      → AreFoundMade S → AreFoundMade (after_from script S es)
   found-made S place [] stands sound made = made
   found-made S place (e ∷ es) stands sound made = found-made (next_by script S e) (place + 1) es (stands-next script shaped S place e es stands) sound.1 next
     where
@@ -86,7 +87,8 @@ record Back (S : State) (t : ObjNo) (row : ThreadRow) (d : Decision) : Type 0 wh
 
 back-to : (S : State) (t : ObjNo) (row : ThreadRow) (word : Word) (p : Part) → Back S t row (return_to S t row word p)
 back-to S t row word p =
-    if_cases (Back S t row) (is_open (object_of S (found_object row))) _ _ (λ opened. record { uses = λ _. refl; misses = λ shut. absurd (cc) }) (λ shut. missed shut (is_live row.stage))
+    if_cases (Back S t row) (is_open (object_of S (found_object row))) _ _
+    (λ opened. record { uses = λ _. refl; misses = λ shut. absurd (cc) }) (λ shut. missed shut (is_live row.stage))
   where
     missed : is_open (object_of S (found_object row)) ≡ false → (live : Bool) → Back S t row (miss t word (found_object row) live)
     missed shut true = record { uses = λ opened. absurd (cc); misses = λ _. refl }
@@ -97,18 +99,26 @@ back S t row (instr.Open kind name x) finds = back-to S t row _ _
 back S t row (instr.Connect name slots x) finds = back-to S t row _ _
 back S t row i finds = absurd (cc)
 
-back-decided : (script : Script) (S : State) (t : ObjNo) (row : ThreadRow) → AtFinds script S → may_act script S t ≡ true → thread_of S t ≡ Some row → is_returning row.part ≡ true → Back S t row (decision_of script S t)
+back-decided : (script : Script) (S : State) (t : ObjNo) (row : ThreadRow) → AtFinds script S
+    → may_act script S t ≡ true → thread_of S t ≡ Some row → is_returning row.part ≡ true
+    → Back S t row (decision_of script S t)
 back-decided script S t row at may is returns = by (instruction script row) refl
   where
     by : (x : Option Instr) → instruction script row ≡ x → Back S t row (decision_of script S t)
     by None e = let found = at t row is returns in let none = ap finds_by_name e in absurd (cc)
     by (Some i) e =
-        let acts : decision_of script S t ≡ decision_of_row script S t (thread_of S t) (task_of script S t) = ap (λ (b : Bool). decision_where script b S t (task_of script S t)) may in
-        let there : decision_of_row script S t (thread_of S t) (task_of script S t) ≡ decision_of_row script S t (Some row) (task_of_row script S t (Some row)) = ap (λ (x : Option ThreadRow). decision_of_row script S t x (task_of_row script S t x)) is in
+        let acts : decision_of script S t ≡ decision_of_row script S t (thread_of S t) (task_of script S t) =
+        ap (λ (b : Bool). decision_where script b S t (task_of script S t)) may in
+        let there : decision_of_row script S t (thread_of S t) (task_of script S t)
+        ≡ decision_of_row script S t (Some row) (task_of_row script S t (Some row)) =
+        ap (λ (x : Option ThreadRow). decision_of_row script S t x (task_of_row script S t x)) is in
         subst (Back S t row) (sym (acts ∙ (there ∙ return-first script S t row (is_returning row.part) (instruction script row) _ i returns e)))
         (back S t row i (sym (ap finds_by_name e) ∙ at t row is returns))
 
-back-effects : (script : Script) (S : State) (t : ObjNo) (row : ThreadRow) → Back S t row (decision_of script S t) → (effects : List Effect) → effects ≡ (act script S t).outcome.effects → (is_open (object_of S (found_object row)) ≡ true → effects ≡ Plus (Temp t) (found_object row) ∷ []) × (is_open (object_of S (found_object row)) ≡ false → effects ≡ Missed (found_object row) ∷ [])
+back-effects : (script : Script) (S : State) (t : ObjNo) (row : ThreadRow) → Back S t row (decision_of script S t)
+    → (effects : List Effect) → effects ≡ (act script S t).outcome.effects
+    → (is_open (object_of S (found_object row)) ≡ true → effects ≡ Plus (Temp t) (found_object row) ∷ [])
+    × (is_open (object_of S (found_object row)) ≡ false → effects ≡ Missed (found_object row) ∷ [])
 unfolding act
 back-effects script S t row b effects told = (λ opened. told ∙ b.uses opened, λ shut. told ∙ b.misses shut)
 
@@ -127,7 +137,8 @@ pub record Comes (old : List Entry) (S : State) (t : ObjNo) (effects : List Effe
   pub found : 0 < seeks object (thread_of S t)
   pub tells : Uses (effects_of old) t object effects ⊎ Misses (effects_of old) object effects
 
-module _ (script : Script) (old new : List Entry) (t : ObjNo) (valid : IsWellFormed script) (legal : IsShared script old) (made : ReturnsBy script old new t) where
+module _ (script : Script) (old new : List Entry) (t : ObjNo) (valid : IsWellFormed script)
+    (legal : IsShared script old) (made : ReturnsBy script old new t) where
   abbrev S : State
   S = after_in true script old
 
@@ -150,22 +161,31 @@ module _ (script : Script) (old new : List Entry) (t : ObjNo) (valid : IsWellFor
 
   inside : (row : ThreadRow) → thread_of S t ≡ Some row → is_returning row.part ≡ true → (found_object row).0 < length S.references.objects
   inside row is returns =
-      found-made script shaped (boot_in true script) 1 old at-boot sound (λ u o out. let none = out-boot true script u o shaped in absurd (omega arith)) t (found_object row) (seen row is returns)
+      found-made script shaped (boot_in true script) 1 old at-boot sound
+      (λ u o out. let none = out-boot true script u o shaped in absurd (omega arith)) t (found_object row)
+      (seen row is returns)
 
   counted : (o : ObjNo) → gone S.references.objects o ≡ deaths (effects_of old) o
   counted o = let none = not_gone-boot script shaped o in let more = run-gone script (boot_in true script) old o sound in omega arith
 
-  tells-of : (row : ThreadRow) (e : Entry) → thread_of S t ≡ Some row → is_returning row.part ≡ true → (effects : List Effect) → effects ≡ (act script (choosing e S) t).outcome.effects → is_out S t ≡ true → Uses (effects_of old) t (found_object row) effects ⊎ Misses (effects_of old) (found_object row) effects
+  tells-of : (row : ThreadRow) (e : Entry) → thread_of S t ≡ Some row → is_returning row.part ≡ true
+      → (effects : List Effect) → effects ≡ (act script (choosing e S) t).outcome.effects → is_out S t ≡ true
+      → Uses (effects_of old) t (found_object row) effects ⊎ Misses (effects_of old) (found_object row) effects
   tells-of row e is returns effects told out = by (is_open (object_of S (found_object row))) refl
     where
       o : ObjNo
       o = found_object row
 
       both : (is_open (object_of S o) ≡ true → effects ≡ Plus (Temp t) o ∷ []) × (is_open (object_of S o) ≡ false → effects ≡ Missed o ∷ [])
-      both = back-effects script (choosing e S) t row (back-decided script (choosing e S) t row stands (out-may (is_able script (choosing e S) t) S.mode.shared (is_returning (part_of (thread_of S t))) out) is returns) effects told
+      both =
+          back-effects script (choosing e S) t row
+          (back-decided script (choosing e S) t row stands
+          (out-may (is_able script (choosing e S) t) S.mode.shared (is_returning (part_of (thread_of S t))) out) is returns)
+          effects told
 
       by : (b : Bool) → is_open (object_of S o) ≡ b → Uses (effects_of old) t o effects ⊎ Misses (effects_of old) o effects
-      by true opened = let alive = alive_not_gone S.references.objects o (open-row (object_of S o) opened) in let count = counted o in inl (record { lives = omega arith; effect = both.0 opened })
+      by true opened = let alive = alive_not_gone S.references.objects o (open-row (object_of S o) opened) in
+          let count = counted o in inl (record { lives = omega arith; effect = both.0 opened })
       by false shut = inr (record { died = died; effect = both.1 shut })
         where
           died : 0 < deaths (effects_of old) o
@@ -186,7 +206,12 @@ module _ (script : Script) (old new : List Entry) (t : ObjNo) (valid : IsWellFor
       returns = out-returns S.mode.shared (is_returning (part_of (thread_of S t))) out
 
       by : (x : Option ThreadRow) → thread_of S t ≡ x → Comes old S t e.effects
-      by None is = let none : is_returning (part_of (thread_of S t)) ≡ false = ap (λ (x : Option ThreadRow). is_returning (part_of x)) is in absurd (false≢true (sym none ∙ returns))
+      by None is = let none : is_returning (part_of (thread_of S t))
+          ≡ false = ap (λ (x : Option ThreadRow). is_returning (part_of x)) is in absurd (false≢true (sym none ∙ returns))
       by (Some row) is =
           let row_returns : is_returning row.part ≡ true = sym (ap (λ (x : Option ThreadRow). is_returning (part_of x)) is) ∙ returns in
-          record { object = found_object row; found = seen row is row_returns; tells = tells-of row e is row_returns e.effects (ap (λ (x : Entry). x.effects) made.more.told) out }
+          record {
+            object = found_object row;
+            found = seen row is row_returns;
+            tells = tells-of row e is row_returns e.effects (ap (λ (x : Entry). x.effects) made.more.told) out;
+          }

@@ -35,7 +35,8 @@ pub record Call (turns lock : LockId KernelBase) (given lent left : KernelView W
   pub shows : entries_of (known_of new) ≡ left.history
   pub made : MadeByPasses turns new
 
-module _ (turns lock : LockId KernelBase) (given lent left : KernelView Words) (old mid new : Pass KernelBase) (call : Call turns lock given lent left old mid new) where
+module _ (turns lock : LockId KernelBase) (given lent left : KernelView Words) (old mid new : Pass KernelBase)
+    (call : Call turns lock given lent left old mid new) where
   pub call-free : IsFree lock new
   call-free = subst (λ (l : LockId KernelBase). IsFree l new) call.same call.free
 
@@ -49,9 +50,11 @@ module _ (turns lock : LockId KernelBase) (given lent left : KernelView Words) (
   lent-base = ap base_of call.lends ∙ call.base ∙ ap (λ (l : LockId KernelBase). l.base) call.same
 
   -- what was done under the lock is what the caller sees
-  pub call-turned : (Did : KernelBase → List Entry → List Entry → Type 0) → Did (base_of lent) lent.history left.history → Turned (sight_of lock old) (sight_of lock new) (Did lock.base)
+  pub call-turned : (Did : KernelBase → List Entry → List Entry → Type 0) → Did (base_of lent) lent.history left.history
+      → Turned (sight_of lock old) (sight_of lock new) (Did lock.base)
   call-turned Did did =
-      turned lock old mid new (Did lock.base) lent.history left.history call.came call.begins call.own (ap (λ (k : KernelView Words). k.history) call.lends ∙ call.list) call.known call.shows
+      turned lock old mid new (Did lock.base) lent.history left.history call.came call.begins call.own
+      (ap (λ (k : KernelView Words). k.history) call.lends ∙ call.list) call.known call.shows
       (subst (λ (b : KernelBase). Did b lent.history left.history) lent-base did)
 
   -- and what holds of the kernel's history holds of what the caller knows
@@ -61,20 +64,33 @@ module _ (turns lock : LockId KernelBase) (given lent left : KernelView Words) (
       subst (λ (l : List Entry). P lock.base.script l) (sym call.shows) (subst (λ (s : Script). P s left.history) script holds)
 
 -- the kernel may be left
-pub leaves-base : (base : KernelBase) (given lent left : KernelView Words) → base_of given ≡ base → lent ≡ given → base_of left ≡ base_of lent → base_of left ≡ base
+pub leaves-base : (base : KernelBase) (given lent left : KernelView Words) → base_of given ≡ base → lent ≡ given
+    → base_of left ≡ base_of lent → base_of left ≡ base
 leaves-base base given lent left is lends keeps = keeps ∙ ap base_of lends ∙ is
 
-pub leaves-grown : (known : List Entry) (given lent left : KernelView Words) → given.history ≡ known → lent ≡ given → Begins lent.history left.history → Begins known left.history
-leaves-grown known given lent left list lends grown = subst (λ (l : List Entry). Begins l left.history) (ap (λ (k : KernelView Words). k.history) lends ∙ list) grown
+pub leaves-grown : (known : List Entry) (given lent left : KernelView Words) → given.history ≡ known → lent ≡ given
+    → Begins lent.history left.history → Begins known left.history
+leaves-grown known given lent left list lends grown =
+    subst (λ (l : List Entry). Begins l left.history) (ap (λ (k : KernelView Words). k.history) lends ∙ list) grown
 
 -- a ticket whose find the pass knew may be given back, also when others came before
 entries-begin : (front whole : List Logged) → Begins front whole → Begins (entries_of front) (entries_of whole)
 entries-begin front whole begins = record { rest = entries_of begins.rest; is = sym (entries_of-append front begins.rest) ∙ ap entries_of begins.is }
 
-pub still-opened : (turns lock : LockId KernelBase) (given lent : KernelView Words) (old mid : Pass KernelBase) (t : ObjNo) (ticket : Note) → turns ≡ lock → Begins (known_of old) (known_of mid) → given.history ≡ entries_of (known_of mid) → base_of given ≡ turns.base → lent ≡ given
+pub still-opened : (turns lock : LockId KernelBase) (given lent : KernelView Words) (old mid : Pass KernelBase)
+    (t : ObjNo) (ticket : Note)
+    → turns ≡ lock → Begins (known_of old) (known_of mid) → given.history ≡ entries_of (known_of mid)
+    → base_of given ≡ turns.base → lent ≡ given
     → IsOpened lock.base (entries_of (known_of old)) t ticket → IsOpened (base_of lent) lent.history t ticket
 still-opened turns lock given lent old mid t ticket same begins list base lends opened =
     let history : entries_of (known_of mid) ≡ lent.history = sym list ∙ ap (λ (k : KernelView Words). k.history) (sym lends) in
     let words : lock.base ≡ base_of lent = ap (λ (l : LockId KernelBase). l.base) (sym same) ∙ sym base ∙ ap base_of (sym lends) in
-    let known : IsOpened lock.base (entries_of (known_of mid)) t ticket = record { opened = opened.opened; same_words = opened.same_words; its = finder-longer ticket.slip.number (entries_of (known_of old)) (entries_of (known_of mid)) t (entries-begin (known_of old) (known_of mid) begins) opened.its } in
-    subst (λ (l : List Entry). IsOpened (base_of lent) l t ticket) history (subst (λ (b : KernelBase). IsOpened b (entries_of (known_of mid)) t ticket) words known)
+    let known : IsOpened lock.base (entries_of (known_of mid)) t ticket = record {
+      opened = opened.opened;
+      same_words = opened.same_words;
+      its =
+          finder-longer ticket.slip.number (entries_of (known_of old)) (entries_of (known_of mid)) t
+          (entries-begin (known_of old) (known_of mid) begins) opened.its;
+    } in
+    subst (λ (l : List Entry). IsOpened (base_of lent) l t ticket) history
+    (subst (λ (b : KernelBase). IsOpened b (entries_of (known_of mid)) t ticket) words known)

@@ -27,17 +27,31 @@ acts-grown b old new actor (ActedEntry place) acts = record { rest = acts.made.m
 acts-grown b old new actor (ActedSeek place thread ticket) acts = record { rest = acts.made.more.entry ∷ []; is = sym acts.made.more.longer }
 
 -- it is what a slot does, what a thread does, and what the next slot does
-pub does-slot : (b : KernelBase) (old new : List Entry) (slot : Slot) (acted : Acted) → MaySlot b.script old slot → Acts b old new (slot_after b.script old slot) acted → DoesSlot b slot (did_of acted) old new
+pub does-slot : (b : KernelBase) (old new : List Entry) (slot : Slot) (acted : Acted) → MaySlot b.script old slot
+    → Acts b old new (slot_after b.script old slot) acted → DoesSlot b slot (did_of acted) old new
 does-slot b old new slot (ActedEntry place) may acts = (may, acts)
 does-slot b old new slot (ActedSeek place thread ticket) may acts = (may, acts)
 
-pub does-act : (b : KernelBase) (old new : List Entry) (t : ObjNo) (acted : Acted) → MayAct b.script old t → Acts b old new (Thread t) acted → DoesAct b t (did_of acted) old new
+pub does-act : (b : KernelBase) (old new : List Entry) (t : ObjNo) (acted : Acted) → MayAct b.script old t
+    → Acts b old new (Thread t) acted → DoesAct b t (did_of acted) old new
 does-act b old new t (ActedEntry place) may acts = (may, acts)
 does-act b old new t (ActedSeek place thread ticket) may acts = (may, acts)
 
-pub draws-next : (b : KernelBase) (old new : List Entry) (slot : Slot) (acted : Acted) → slice_get b.script.slots (slots_taken old) ≡ Some slot → Acts b old new (slot_after b.script old slot) acted → Draws b (drew_of acted) old new
-draws-next b old new slot (ActedEntry place) at acts = (slot_after b.script old slot, ap (option_map (slot_actor (after_in true b.script old) (arrived_in true b.script old))) at, acts)
-draws-next b old new slot (ActedSeek place thread ticket) at acts = (slot_after b.script old slot, ap (option_map (slot_actor (after_in true b.script old) (arrived_in true b.script old))) at, acts)
+pub draws-next : (b : KernelBase) (old new : List Entry) (slot : Slot) (acted : Acted)
+    → slice_get b.script.slots (slots_taken old) ≡ Some slot → Acts b old new (slot_after b.script old slot) acted
+    → Draws b (drew_of acted) old new
+draws-next b old new slot (ActedEntry place) at acts = (
+  slot_after b.script old slot,
+  ap (option_map
+      (slot_actor (after_in true b.script old) (arrived_in true b.script old))) at,
+  acts,
+)
+draws-next b old new slot (ActedSeek place thread ticket) at acts = (
+  slot_after b.script old slot,
+  ap (option_map
+      (slot_actor (after_in true b.script old) (arrived_in true b.script old))) at,
+  acts,
+)
 
 -- an interrupt that isn't declared, and one that is
 pub undeclared-some : (script : Script) (slot : Slot) (k : ℕ) → Some k ≡ undeclared script slot → (slot ≡ Irq k) × (declares_interrupt script k ≡ false)
@@ -61,7 +75,8 @@ undeclared-none script (Irq n) is = by (declares_interrupt script n) refl is
     by false e is = absurd (cc)
 
 -- whether it is declared, by what the kernel answers
-pub undeclared-at : (script : Script) (slot : Slot) (k : ℕ) (b : Bool) → slot ≡ Irq k → b ≡ declares_interrupt script k → undeclared_by b k ≡ undeclared script slot
+pub undeclared-at : (script : Script) (slot : Slot) (k : ℕ) (b : Bool) → slot ≡ Irq k → b ≡ declares_interrupt script k
+    → undeclared_by b k ≡ undeclared script slot
 undeclared-at script slot k b is says = ap (λ (d : Bool). undeclared_by d k) says ∙ ap (undeclared script) (sym is)
 
 pub undeclared-other : (script : Script) (slot : Slot) → ((k : ℕ) → slot ≡ Irq k → ⊥) → None ≡ undeclared script slot

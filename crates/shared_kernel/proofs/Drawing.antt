@@ -36,7 +36,9 @@ pub record GoesOn (script : Script) (old new : List Entry) (slots : ℕ) : Type 
 taken-as : (old new : List Entry) (e : Entry) (b : Bool) → new ≡ old ++ e ∷ [] → is_return e.step ≡ b → slots_taken new ≡ slots_taken old + (if b then 0 else 1)
 taken-as old new e b longer is = taken-more old new e longer ∙ ap (λ (r : Bool). slots_taken old + (if r then 0 else 1)) is
 
-sends-on : (script : Script) (old new : List Entry) (slot : Slot) (sent : Option Slip) → IsSharedPart script old → IsShared script new → slice_get script.slots (slots_taken old) ≡ Some slot → SendsOut script old new (slot_after script old slot) sent → GoesOn script old new 1
+sends-on : (script : Script) (old new : List Entry) (slot : Slot) (sent : Option Slip) → IsSharedPart script old
+    → IsShared script new → slice_get script.slots (slots_taken old) ≡ Some slot
+    → SendsOut script old new (slot_after script old slot) sent → GoesOn script old new 1
 sends-on script old new slot sent part legal at made =
     let e = made.more.entry in
     let actor : e.actor ≡ slot_after script old slot = ap (λ (x : Entry). x.actor) made.more.told in
@@ -47,12 +49,15 @@ sends-on script old new slot sent part legal at made =
     }
 
 -- the actor of the next slot acted
-pub draw-on : (b : KernelBase) (old new : List Entry) (slot : Slot) (acted : Acted) → IsSharedPart b.script old → IsShared b.script new → slice_get b.script.slots (slots_taken old) ≡ Some slot → Acts b old new (slot_after b.script old slot) acted → GoesOn b.script old new 1
+pub draw-on : (b : KernelBase) (old new : List Entry) (slot : Slot) (acted : Acted) → IsSharedPart b.script old
+    → IsShared b.script new → slice_get b.script.slots (slots_taken old) ≡ Some slot
+    → Acts b old new (slot_after b.script old slot) acted → GoesOn b.script old new 1
 draw-on b old new slot (ActedEntry place) part legal at acts = sends-on b.script old new slot None part legal at acts.made
 draw-on b old new slot (ActedSeek place thread ticket) part legal at acts = sends-on b.script old new slot (Some ticket.slip) part legal at acts.made
 
 -- or a thread came back
-pub back-on : (script : Script) (old new : List Entry) (t : ObjNo) → IsSharedPart script old → IsShared script new → ReturnsBy script old new t → GoesOn script old new 0
+pub back-on : (script : Script) (old new : List Entry) (t : ObjNo) → IsSharedPart script old → IsShared script new
+    → ReturnsBy script old new t → GoesOn script old new 0
 back-on script old new t part legal made =
     let e = made.more.entry in
     record {
@@ -62,8 +67,11 @@ back-on script old new t part legal made =
     }
 
 -- no more slots are taken than there are, which are few
-pub few-taken : (script : Script) (history : List Entry) → IsWellFormed script → IsSharedPart script history → (slots_taken history ≤ length script.slots) × (length script.slots ≤ 65536)
-few-taken script history valid part = let few = valid_slots_few script valid in (taken-few script (boot_in true script) (ready_at_boot script) script.slots history part.slots, omega arith)
+pub few-taken : (script : Script) (history : List Entry) → IsWellFormed script → IsSharedPart script history
+    → (slots_taken history ≤ length script.slots) × (length script.slots ≤ 65536)
+few-taken script history valid part =
+    let few = valid_slots_few script valid in
+    (taken-few script (boot_in true script) (ready_at_boot script) script.slots history part.slots, omega arith)
 
 -- the next slot of the schedule, which is declared
 pub at-next : (slots all : List Slot) (n m : ℕ) (s : Slot) → slots ≡ all → n ≡ m → slice_get slots n ≡ Some s → slice_get all m ≡ Some s
@@ -110,11 +118,17 @@ module _ (k : KernelView Words) (slots : List Slot) (taken : ℕ) (old : IsSched
       two = (let two = old.two in let longer = on.longer in omega arith);
     }
 
-    pub scheduled-draw : (slot : Slot) (acted : Acted) → slice_get slots taken ≡ Some slot → Acts (base_of k) k.history l.history (slot_after k.script k.history slot) acted → length l.notes.out ≤ length k.notes.out + 1 → IsScheduled l slots (taken + 1)
+    pub scheduled-draw : (slot : Slot) (acted : Acted) → slice_get slots taken ≡ Some slot
+        → Acts (base_of k) k.history l.history (slot_after k.script k.history slot) acted → length l.notes.out
+        ≤ length k.notes.out + 1 → IsScheduled l slots (taken + 1)
     scheduled-draw slot acted at acts out =
-        goes-on 1 (draw-on (base_of k) k.history l.history slot acted old.part (subst (λ (s : Script). IsShared s l.history) same-script legal) (at-next slots k.script.slots taken (slots_taken k.history) slot old.slots old.taken at) acts) (omega arith)
+        goes-on 1 (draw-on (base_of k) k.history l.history slot acted old.part
+        (subst (λ (s : Script). IsShared s l.history) same-script legal)
+        (at-next slots k.script.slots taken (slots_taken k.history) slot old.slots old.taken at) acts) (omega arith)
 
     pub scheduled-back : (t : ObjNo) → ReturnsBy k.script k.history l.history t → length l.notes.out + 1 ≡ length k.notes.out → IsScheduled l slots taken
     scheduled-back t made fewer =
         let same : taken + 0 ≡ taken = omega arith in
-        subst (IsScheduled l slots) same (goes-on 0 (back-on k.script k.history l.history t old.part (subst (λ (s : Script). IsShared s l.history) same-script legal) made) (omega arith))
+        subst (IsScheduled l slots) same (goes-on 0
+        (back-on k.script k.history l.history t old.part
+        (subst (λ (s : Script). IsShared s l.history) same-script legal) made) (omega arith))

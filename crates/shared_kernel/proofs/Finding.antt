@@ -29,7 +29,12 @@ pub finder-longer : (k : ℕ) (front whole : List Entry) (t : ObjNo) → Begins 
 finder-longer k front whole t begins at = ap (λ (l : List Entry). finder k l) (sym begins.is) ∙ finder-more k front begins.rest t at
 
 -- the ticket of a find, once it has opened its object or found it dead
-pub opened-found : (b : KernelBase) (history : List Entry) (t : ObjNo) (ticket opened : Note) (found : Found) → opened ≡ record ticket { found = Some found } → IsFound b history t ticket → IsOpened b history t opened
+pub opened-found : (b : KernelBase) (history : List Entry) (t : ObjNo) (ticket opened : Note) (found : Found)
+    → opened ≡ record ticket { found = Some found } → IsFound b history t ticket → IsOpened b history t opened
 opened-found b history t ticket opened found is its =
-    let settled : IsOpened b history t (record ticket { found = Some found }) = record { opened = λ (none : ◌≡◌ {A = Option Found} (Some found) None). cc; same_words = its.same_words; its = its.its } in
+    let settled : IsOpened b history t (record ticket { found = Some found }) = record {
+      opened = λ (none : ◌≡◌ {A = Option Found} (Some found) None). cc;
+      same_words = its.same_words;
+      its = its.its;
+    } in
     subst (IsOpened b history t) (sym is) settled

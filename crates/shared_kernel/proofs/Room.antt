@@ -14,7 +14,8 @@ more-than m n is = grind (arith, nat_tests)
 at-most : (m n : ℕ) → nat_lt m n ≡ false → n ≤ m
 at-most m n is = grind (arith, nat_tests)
 
-module _ (k : KernelView Words) (made out : ℕ) (entries : made ≡ length k.history) (outs : out ≡ away (after_in true k.script k.history)) (many : out ≡ length k.notes.out) where
+module _ (k : KernelView Words) (made out : ℕ) (entries : made ≡ length k.history)
+    (outs : out ≡ away (after_in true k.script k.history)) (many : out ≡ length k.notes.out) where
   -- it is told by the entries and those who are out
   pub full-is : nat_lt 131072 (made + out + 2) ≡ true → IsFull k.script k.history k.history made out
   full-is is = let more = more-than 131072 (made + out + 2) is in record { same = refl; made = entries; back = outs; many = omega arith }

@@ -44,19 +44,25 @@ none-in Tick other = refl
 none-in Idle other = refl
 
 -- so the actor of the last entry is a thread or none
-pub last-thread : (before history : List Entry) (e d : Entry) (t : ObjNo) → history ≡ before ++ e ∷ [] → (get_or history (length history - 1) d).actor ≡ Thread t → Some t ≡ thread_in e.actor
+pub last-thread : (before history : List Entry) (e d : Entry) (t : ObjNo) → history ≡ before ++ e ∷ []
+    → (get_or history (length history - 1) d).actor ≡ Thread t → Some t ≡ thread_in e.actor
 last-thread before history e d t longer is = sym (ap thread_in is) ∙ ap (λ (x : Entry). thread_in x.actor) (last-is before history e d longer)
 
-pub last-none : (before history : List Entry) (e d : Entry) → history ≡ before ++ e ∷ [] → ((t : ObjNo) → (get_or history (length history - 1) d).actor ≡ Thread t → ⊥) → None ≡ thread_in e.actor
-last-none before history e d longer apart = none-in e.actor (λ (t : ObjNo) (is : e.actor ≡ Thread t). apart t (ap (λ (x : Entry). x.actor) (last-is before history e d longer) ∙ is))
+pub last-none : (before history : List Entry) (e d : Entry) → history ≡ before ++ e ∷ []
+    → ((t : ObjNo) → (get_or history (length history - 1) d).actor ≡ Thread t → ⊥) → None ≡ thread_in e.actor
+last-none before history e d longer apart =
+    none-in e.actor (λ (t : ObjNo) (is : e.actor ≡ Thread t). apart t
+    (ap (λ (x : Entry). x.actor) (last-is before history e d longer) ∙ is))
 
 -- a ticket that just went out is as callers are told it
-pub unopened : (b : KernelBase) (identity : List ℕ) (Fits : Note → Type 0) (sent : Option Note) → identity ≡ b.identity → IfSome sent (λ note. (note.found ≡ None) × (note.identity ≡ identity) × Fits note) → IfSome sent (IsUnopened b)
+pub unopened : (b : KernelBase) (identity : List ℕ) (Fits : Note → Type 0) (sent : Option Note) → identity ≡ b.identity
+    → IfSome sent (λ note. (note.found ≡ None) × (note.identity ≡ identity) × Fits note) → IfSome sent (IsUnopened b)
 unopened b identity Fits None same fresh = tt
 unopened b identity Fits (Some ticket) same fresh = (fresh.0, fresh.1 ∙ same)
 
 -- the actor of the entry that was made
-by-actor : (b : KernelBase) (old new : List Entry) (actor : Actor) (sent : Option Slip) → (made : SendsOut b.script old new actor sent) → made.more.entry.actor ≡ actor
+by-actor : (b : KernelBase) (old new : List Entry) (actor : Actor) (sent : Option Slip)
+    → (made : SendsOut b.script old new actor sent) → made.more.entry.actor ≡ actor
 by-actor b old new actor sent made = ap (λ (e : Entry). e.actor) made.more.told
 
 module _ (b : KernelBase) (old new : List Entry) (actor : Actor) (s : Slip) where
@@ -69,8 +75,10 @@ module _ (b : KernelBase) (old new : List Entry) (actor : Actor) (s : Slip) wher
       cc
 
 -- which is told with the ticket
-pub makes-find : (b : KernelBase) (old new : List Entry) (actor : Actor) (place : ℕ) (thread : ObjNo) (ticket : Note) → SendsOut b.script old new actor (Some ticket.slip)
-    → ((before : List Entry) → (e : Entry) → new ≡ before ++ e ∷ [] → Some thread ≡ thread_in e.actor) → place ≡ length new → IsUnopened b ticket → MakesFind b old new actor place thread ticket
+pub makes-find : (b : KernelBase) (old new : List Entry) (actor : Actor) (place : ℕ) (thread : ObjNo) (ticket : Note)
+    → SendsOut b.script old new actor (Some ticket.slip)
+    → ((before : List Entry) → (e : Entry) → new ≡ before ++ e ∷ [] → Some thread ≡ thread_in e.actor) → place
+    ≡ length new → IsUnopened b ticket → MakesFind b old new actor place thread ticket
 makes-find b old new actor place thread ticket made last at fresh =
     let finder : IsFinder new actor ticket.slip = made.finder in
     let one : Some thread ≡ thread_in actor = last old made.more.entry made.more.longer ∙ ap thread_in (by-actor b old new actor (Some ticket.slip) made) in

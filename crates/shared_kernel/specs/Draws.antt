@@ -16,7 +16,9 @@ use Rattle.shared_kernel.specs.Turned.{Turned}
 
 -- whom the next slot lets act after a history: the slot whose number is one more than that of the entries that aren't returns
 abbrev pub next_actor : Script → List Entry → Option Actor
-next_actor script history = option_map (slot_actor (after_in true script history) (arrived_in true script history)) (slice_get script.slots (slots_taken history))
+next_actor script history =
+    option_map (slot_actor (after_in true script history) (arrived_in true script history))
+    (slice_get script.slots (slots_taken history))
 
 -- no slot is left
 pub record NoneLeft (script : Script) (old new : List Entry) (place : ℕ) : Type 0 where

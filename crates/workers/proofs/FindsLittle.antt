@@ -46,7 +46,8 @@ seek-told (move.Pay (Close h o)) = refl
 seek-told (move.Pay (Sweep o)) = refl
 seek-told _ = refl
 
-finds-told : (script : Script) (S : State) (actor : Actor) → times_found (transition script S actor).outcome.effects ≡ total finding_bit (moves_of script S actor)
+finds-told : (script : Script) (S : State) (actor : Actor)
+    → times_found (transition script S actor).outcome.effects ≡ total finding_bit (moves_of script S actor)
 finds-told script S actor = next-is seek_bit of-seek script S actor ∙ total-same (told_by seek_bit) finding_bit seek-told (moves_of script S actor)
 
 -- moves that find nothing, or some object
@@ -63,21 +64,31 @@ bit-few true = omega arith
 bit-few false = omega arith
 
 -- a thread finds an object only where it does nothing else
-apart : (script : Script) (S : State) (t : ObjNo) → IsShaped script → AreRows script S → total finding_bit (moves_of script S (Thread t)) + total coming_bit (moves_of script S (Thread t)) ≤ 1
-apart script S t shaped rows = elim (any-find (moves_of script S (Thread t))) as (λ _. total finding_bit (moves_of script S (Thread t)) + total coming_bit (moves_of script S (Thread t)) ≤ 1) [
-  | inl none ↦ (
-      let comes = comes-next script S (Thread t) shaped rows in
-      let few = bit-few (is_return (transition script S (Thread t)).outcome.step) in omega arith)
-  | inr some ↦ (
-      let finding = (regular-action script S t shaped rows).1.finds some.0 some.1 in
-      let alone : total finding_bit (move.Find t some.0 ∷ []) + total coming_bit (move.Find t some.0 ∷ []) ≤ 1 = omega arith in
-      subst (λ (ms : List Move). total finding_bit ms + total coming_bit ms ≤ 1) (sym finding.moves) alone)
-]
+apart : (script : Script) (S : State) (t : ObjNo) → IsShaped script → AreRows script S
+    → total finding_bit (moves_of script S (Thread t)) + total coming_bit (moves_of script S (Thread t)) ≤ 1
+apart script S t shaped rows =
+    elim (any-find (moves_of script S (Thread t))) as
+    (λ _. total finding_bit (moves_of script S (Thread t)) + total coming_bit (moves_of script S (Thread t)) ≤ 1) [
+      | inl none ↦ (
+          let comes = comes-next script S (Thread t) shaped rows in
+          let few = bit-few (is_return (transition script S (Thread t)).outcome.step) in omega arith)
+      | inr some ↦ (
+          let finding = (regular-action script S t shaped rows).1.finds some.0 some.1 in
+          let alone : total finding_bit (move.Find t some.0 ∷ []) + total coming_bit (move.Find t some.0 ∷ []) ≤ 1 = omega arith in
+          subst (λ (ms : List Move). total finding_bit ms + total coming_bit ms ≤ 1) (sym finding.moves) alone)
+    ]
 
-finds-next : (script : Script) (S : State) (actor : Actor) → IsShaped script → AreRows script S → total finding_bit (moves_of script S actor) + total coming_bit (moves_of script S actor) ≤ 1
+finds-next : (script : Script) (S : State) (actor : Actor) → IsShaped script → AreRows script S
+    → total finding_bit (moves_of script S actor) + total coming_bit (moves_of script S actor) ≤ 1
 finds-next script S (Thread t) shaped rows = apart script S t shaped rows
-finds-next script S (Irq k) shaped rows = let stays = (keeps-interrupt script S k shaped rows).stays in let once = finds-once script S (Irq k) shaped rows in omega arith
-finds-next script S Idfc shaped rows = let stays = (keeps-immediate script S shaped rows).stays in let once = finds-once script S Idfc shaped rows in omega arith
+finds-next script S (Irq k) shaped rows =
+    let stays = (keeps-interrupt script S k shaped rows).stays in
+    let once = finds-once script S (Irq k) shaped rows in
+    omega arith
+finds-next script S Idfc shaped rows =
+    let stays = (keeps-immediate script S shaped rows).stays in
+    let once = finds-once script S Idfc shaped rows in
+    omega arith
 finds-next script S Tick shaped rows = omega arith
 finds-next script S Idle shaped rows = omega arith
 
@@ -85,14 +96,17 @@ finds-next script S Idle shaped rows = omega arith
 record FindsLittle (e : Entry) : Type 0 where
   pub little : times_found e.effects + return_bit e.step ≤ 1
 
-finds-little : (script : Script) (S : State) (e : Entry) → IsShaped script → AreRows script S → e.step ≡ (transition script S e.actor).outcome.step → e.effects ≡ (transition script S e.actor).outcome.effects → FindsLittle e
+finds-little : (script : Script) (S : State) (e : Entry) → IsShaped script → AreRows script S
+    → e.step ≡ (transition script S e.actor).outcome.step → e.effects ≡ (transition script S e.actor).outcome.effects
+    → FindsLittle e
 finds-little script S e shaped rows step effects =
     let few = finds-next script S e.actor shaped rows in
     let all : times_found e.effects ≡ total finding_bit (moves_of script S e.actor) = ap times_found effects ∙ finds-told script S e.actor in
     let comes : total coming_bit (moves_of script S e.actor) ≡ return_bit e.step = comes-next script S e.actor shaped rows ∙ ap return_bit (sym step) in
     record { little = omega arith }
 
-each-finds : (script : Script) (S : State) (place : ℕ) (es : List Entry) → IsShaped script → AreRows script S → IsLegalFrom script S place es → AllByRecursion FindsLittle es
+each-finds : (script : Script) (S : State) (place : ℕ) (es : List Entry) → IsShaped script → AreRows script S
+    → IsLegalFrom script S place es → AllByRecursion FindsLittle es
 each-finds script S place [] shaped rows legal = tt
 each-finds script S place (e ∷ es) shaped rows legal =
     let T = choosing e S in
@@ -101,6 +115,9 @@ each-finds script S place (e ∷ es) shaped rows legal =
       each-finds script (next_by script S e) (place + 1) es shaped (sound-next script T e.actor shaped chosen).rows legal.1,
     )
 
-pub last-finds : (script : Script) (before history : List Entry) (e : Entry) → IsWellFormed script → IsShared script history → history ≡ before ++ e ∷ [] → times_found e.effects + return_bit e.step ≤ 1
+pub last-finds : (script : Script) (before history : List Entry) (e : Entry) → IsWellFormed script
+    → IsShared script history → history ≡ before ++ e ∷ [] → times_found e.effects + return_bit e.step ≤ 1
 last-finds script before history e valid legal is =
-    (at-each FindsLittle history before e [] (each-finds script (boot_in true script) 1 history (formed_is_shaped script valid) (well_formed-boot true script valid).rows legal) is).little
+    (at-each FindsLittle history before e []
+    (each-finds script (boot_in true script) 1 history (formed_is_shaped script valid)
+    (well_formed-boot true script valid).rows legal) is).little

@@ -58,14 +58,18 @@ one-caller f k e from (suc n) low high = elim (nat_cases from k low) as (λ _. o
     nat_cases zero zero le = inl refl
     nat_cases zero (suc k) le = inr (omega arith)
     nat_cases (suc m) zero le = absurd (omega arith)
-    nat_cases (suc m) (suc k) le = elim (nat_cases m k (omega arith)) as (λ _. (suc m ≡ suc k) ⊎ (suc m + 1 ≤ suc k)) [ inl same ↦ inl (ap suc same) | inr more ↦ inr (omega arith) ]
+    nat_cases (suc m) (suc k) le = elim (nat_cases m k (omega arith)) as
+        (λ _. (suc m ≡ suc k) ⊎ (suc m + 1 ≤ suc k)) [ inl same ↦ inl (ap suc same) | inr more ↦ inr (omega arith) ]
 
-weigh-log : (f : Entry → ℕ) (count : ℕ) (log : List Logged) → AllByRecursion (λ (x : Logged). x.caller < count) log → weigh f (entries_of log) ≡ over (λ c. weigh f (made_by c log)) 0 count
+weigh-log : (f : Entry → ℕ) (count : ℕ) (log : List Logged) → AllByRecursion (λ (x : Logged). x.caller < count) log
+    → weigh f (entries_of log) ≡ over (λ c. weigh f (made_by c log)) 0 count
 weigh-log f count [] below = sym (over-none (λ c. 0) 0 count (λ c low. refl))
 weigh-log f count (x ∷ log) below =
     let here = one-caller f x.caller x.entry 0 count (omega arith) (let b = below.0 in omega arith) in
     let rest = weigh-log f count log below.1 in
-    let each = over-same (λ c. weigh f (made_by c (x ∷ log))) (λ c. weigh f (entry_if (eqb x.caller c) x.entry) + weigh f (made_by c log)) 0 count (λ c low high. weigh-if f (eqb x.caller c) x.entry (made_by c log)) in
+    let each = over-same (λ c. weigh f (made_by c (x ∷ log)))
+    (λ c. weigh f (entry_if (eqb x.caller c) x.entry) + weigh f (made_by c log)) 0 count
+    (λ c low high. weigh-if f (eqb x.caller c) x.entry (made_by c log)) in
     let both = over-add (λ c. weigh f (entry_if (eqb x.caller c) x.entry)) (λ c. weigh f (made_by c log)) 0 count in omega arith
 
 -- so where each caller's returns are as many as its finds, the log's are
@@ -83,9 +87,12 @@ finds-weigh : (es : List Entry) → finds_in es ≡ weigh find_weight es
 finds-weigh [] = refl
 finds-weigh (e ∷ es) = let rest = finds-weigh es in omega arith
 
-pub all-back : (count : ℕ) (log : List Logged) → AllByRecursion (λ (x : Logged). x.caller < count) log → ((c : ℕ) → c < count → returns_in (made_by c log) ≡ finds_in (made_by c log)) → returns_in (entries_of log) ≡ finds_in (entries_of log)
+pub all-back : (count : ℕ) (log : List Logged) → AllByRecursion (λ (x : Logged). x.caller < count) log
+    → ((c : ℕ) → c < count → returns_in (made_by c log) ≡ finds_in (made_by c log))
+    → returns_in (entries_of log) ≡ finds_in (entries_of log)
 all-back count log below each =
     let returns = weigh-log return_weight count log below in
     let finds = weigh-log find_weight count log below in
-    let same = over-same (λ c. weigh return_weight (made_by c log)) (λ c. weigh find_weight (made_by c log)) 0 count (λ c low high. sym (returns-weigh (made_by c log)) ∙ (each c (omega arith) ∙ finds-weigh (made_by c log))) in
+    let same = over-same (λ c. weigh return_weight (made_by c log)) (λ c. weigh find_weight (made_by c log)) 0 count
+    (λ c low high. sym (returns-weigh (made_by c log)) ∙ (each c (omega arith) ∙ finds-weigh (made_by c log))) in
     let r = returns-weigh (entries_of log) in let f = finds-weigh (entries_of log) in omega arith

@@ -1,5 +1,5 @@
 //! What a worker does.
-ghost use Rattle.std.specs.Prelude.{◌≡◌, false};
+ghost use Rattle.std.specs.Prelude.{◌≡◌, ◌≢◌, None, false};
 ghost use Rattle.machine.specs.SharedRun.{IsSharedPart};
 ghost use Rattle.turn_lock.specs.Log.{entries_of};
 ghost use Rattle.turn_lock.specs.Passes.{caller_of, known_of, sight_of, IsFree};
@@ -12,6 +12,17 @@ use shared_kernel::{Drew, Pass, ScheduledKernel};
 use std::sync::Wait;
 use sym_base::ThreadNo;
 
+/// Opens the object of a ticket, or finds it dead.
+fn opened(mut ticket: Ticket) -> Ticket
+    requires { ticket.found ≡ None }
+    ensures opened { result.found ≢ None }
+    ensures slip { result.slip ≡ ticket.slip }
+    ensures identity { result.identity ≡ ticket.identity }
+{
+    let _ = ticket.open();
+    ticket
+}
+
 /// A ticket opens its object while no turn is held, behind the gate, and then its thread comes back in a turn. It answers the place of the return.
 fn open<R: Wait, G: Gate>(
     rt: &R,
@@ -20,7 +31,7 @@ fn open<R: Wait, G: Gate>(
     pass: &mut Pass,
     place: u32,
     thread: ThreadNo,
-    mut ticket: Ticket,
+    ticket: Ticket,
 ) -> u32
     requires free { IsFree kernel.now pass.old }
     requires found { IsFound kernel.now.base (entries_of (known_of pass.old)) thread ticket }
@@ -30,8 +41,7 @@ fn open<R: Wait, G: Gate>(
     ensures back { GaveBackBy kernel.now.base (sight_of kernel.now pass.old) (sight_of kernel.now pass.new) thread result }
 {
     gate.before_open(place);
-    let _ = ticket.open();
-    kernel.give_back(rt, pass, thread, ticket)
+    kernel.give_back(rt, pass, thread, opened(ticket))
 }
 
 /// Draws a slot. What its thread finds is opened and given back. It answers whether a slot was left.

@@ -29,7 +29,9 @@ told-requires-clause-some c = λ none.
     omega arith
 
 pub told-requires-clause-unopened : goal.told-requires-clause-unopened
-told-requires-clause-unopened c = unopened (base_of c.act_out-sent.new.self) c.act_out-sent.new.self.notes.identity _ c.act_out-sent.result refl c.act_out-sent.ensures.note
+told-requires-clause-unopened c =
+    unopened (base_of c.act_out-sent.new.self) c.act_out-sent.new.self.notes.identity _ c.act_out-sent.result refl
+    c.act_out-sent.ensures.note
 
 pub returns-clause-base : goal.returns-clause-base
 returns-clause-base c =
@@ -39,7 +41,8 @@ returns-clause-base c =
 pub returns-clause-acts : goal.returns-clause-acts
 returns-clause-acts c =
     let said = c.act_out-sent.ensures in
-    acted-told c.args.kernel.now c.act_out-sent.new.self (Thread c.args.thread) (slip_of c.act_out-sent.result) said.entry said.notes c.told.result said.script c.told.ensures
+    acted-told c.args.kernel.now c.act_out-sent.new.self (Thread c.args.thread)
+    (slip_of c.act_out-sent.result) said.entry said.notes c.told.result said.script c.told.ensures
 
 pub returns-clause-out : goal.returns-clause-out
 returns-clause-out c =
@@ -49,4 +52,6 @@ returns-clause-out c =
 pub returns-clause-shareable : goal.returns-clause-shareable
 returns-clause-shareable c =
     let said = c.act_out-sent.ensures in
-    acted-shareable c.args.kernel.now c.act_out-sent.new.self (Thread c.args.thread) (slip_of c.act_out-sent.result) said.entry said.notes c.requires.shareable said.script said.room said.mode c.requires.room
+    acted-shareable c.args.kernel.now c.act_out-sent.new.self (Thread c.args.thread)
+    (slip_of c.act_out-sent.result) said.entry said.notes c.requires.shareable said.script said.room said.mode
+    c.requires.room

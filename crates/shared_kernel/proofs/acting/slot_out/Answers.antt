@@ -19,34 +19,49 @@ slot_out-sent-requires-clause-room c =
 pub told-requires-clause-few : goal.told-requires-clause-few
 told-requires-clause-few c =
     let said = c.slot_out-sent.ensures in
-    let longer = acted-longer c.args.kernel.now c.slot_out-sent.new.self (slot_after c.args.kernel.now.script c.args.kernel.now.history c.args.slot) (slip_of c.slot_out-sent.result) said.entry said.notes in
+    let longer = acted-longer c.args.kernel.now c.slot_out-sent.new.self
+    (slot_after c.args.kernel.now.script c.args.kernel.now.history c.args.slot)
+    (slip_of c.slot_out-sent.result) said.entry said.notes in
     let space = c.requires.room in omega arith
 
 pub told-requires-clause-some : goal.told-requires-clause-some
 told-requires-clause-some c = λ none.
     let said = c.slot_out-sent.ensures in
-    let longer = acted-longer c.args.kernel.now c.slot_out-sent.new.self (slot_after c.args.kernel.now.script c.args.kernel.now.history c.args.slot) (slip_of c.slot_out-sent.result) said.entry said.notes in
+    let longer = acted-longer c.args.kernel.now c.slot_out-sent.new.self
+    (slot_after c.args.kernel.now.script c.args.kernel.now.history c.args.slot)
+    (slip_of c.slot_out-sent.result) said.entry said.notes in
     omega arith
 
 pub told-requires-clause-unopened : goal.told-requires-clause-unopened
-told-requires-clause-unopened c = unopened (base_of c.slot_out-sent.new.self) c.slot_out-sent.new.self.notes.identity _ c.slot_out-sent.result refl c.slot_out-sent.ensures.note
+told-requires-clause-unopened c =
+    unopened (base_of c.slot_out-sent.new.self) c.slot_out-sent.new.self.notes.identity _ c.slot_out-sent.result refl
+    c.slot_out-sent.ensures.note
 
 pub returns-clause-base : goal.returns-clause-base
 returns-clause-base c =
     let said = c.slot_out-sent.ensures in
-    acted-base c.args.kernel.now c.slot_out-sent.new.self (slot_after c.args.kernel.now.script c.args.kernel.now.history c.args.slot) (slip_of c.slot_out-sent.result) said.entry said.notes said.script
+    acted-base c.args.kernel.now c.slot_out-sent.new.self
+    (slot_after c.args.kernel.now.script c.args.kernel.now.history c.args.slot)
+    (slip_of c.slot_out-sent.result) said.entry said.notes said.script
 
 pub returns-clause-acts : goal.returns-clause-acts
 returns-clause-acts c =
     let said = c.slot_out-sent.ensures in
-    acted-told c.args.kernel.now c.slot_out-sent.new.self (slot_after c.args.kernel.now.script c.args.kernel.now.history c.args.slot) (slip_of c.slot_out-sent.result) said.entry said.notes c.told.result said.script c.told.ensures
+    acted-told c.args.kernel.now c.slot_out-sent.new.self
+    (slot_after c.args.kernel.now.script c.args.kernel.now.history c.args.slot)
+    (slip_of c.slot_out-sent.result) said.entry said.notes c.told.result said.script c.told.ensures
 
 pub returns-clause-out : goal.returns-clause-out
 returns-clause-out c =
     let said = c.slot_out-sent.ensures in
-    acted-out c.args.kernel.now c.slot_out-sent.new.self (slot_after c.args.kernel.now.script c.args.kernel.now.history c.args.slot) (slip_of c.slot_out-sent.result) said.entry said.notes
+    acted-out c.args.kernel.now c.slot_out-sent.new.self
+    (slot_after c.args.kernel.now.script c.args.kernel.now.history c.args.slot)
+    (slip_of c.slot_out-sent.result) said.entry said.notes
 
 pub returns-clause-shareable : goal.returns-clause-shareable
 returns-clause-shareable c =
     let said = c.slot_out-sent.ensures in
-    acted-shareable c.args.kernel.now c.slot_out-sent.new.self (slot_after c.args.kernel.now.script c.args.kernel.now.history c.args.slot) (slip_of c.slot_out-sent.result) said.entry said.notes c.requires.shareable said.script said.room said.mode c.requires.room
+    acted-shareable c.args.kernel.now c.slot_out-sent.new.self
+    (slot_after c.args.kernel.now.script c.args.kernel.now.history c.args.slot)
+    (slip_of c.slot_out-sent.result) said.entry said.notes c.requires.shareable said.script said.room said.mode
+    c.requires.room

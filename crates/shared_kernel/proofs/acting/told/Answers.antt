@@ -31,5 +31,6 @@ returns-in-Some-last_thread c = λ old actor made.
 pub returns-in-None-last_thread : goal.returns-in-None-last_thread
 returns-in-None-last_thread c = λ old actor made.
     let k = c.args.kernel.now in
-    absurd (no-finder (base_of k) old k.history actor c.in-Some.ticket.slip (subst (λ (s : Option Note). SendsOut k.script old k.history actor (slip_of s)) c.in-Some.is made)
+    absurd (no-finder (base_of k) old k.history actor c.in-Some.ticket.slip
+    (subst (λ (s : Option Note). SendsOut k.script old k.history actor (slip_of s)) c.in-Some.is made)
     (λ before e longer. c.in-None-last_thread.ensures before e (c.history-history.ensures.entries ∙ longer)))

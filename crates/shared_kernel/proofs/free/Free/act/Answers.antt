@@ -23,7 +23,9 @@ act_out-requires c =
     record {
       shareable = c.self.invariant;
       able = sym (c.able.ensures true c.self.invariant.mode) ∙ c.if-not-able.false;
-      room = (room-is k c.entries-made.result c.notes_out-out.result c.entries-made.ensures.entries (said.away c.self.invariant.mode) said.many (sym c.is_full.ensures ∙ c.if-is_full.false)).0;
+      room =
+          (room-is k c.entries-made.result c.notes_out-out.result c.entries-made.ensures.entries
+          (said.away c.self.invariant.mode) said.many (sym c.is_full.ensures ∙ c.if-is_full.false)).0;
     }
 
 pub returns-then-is_full : goal.returns-then-is_full
@@ -33,7 +35,9 @@ returns-then-is_full c =
     record {
       base = refl;
       grown = begins_itself c.args.self.now.history;
-      does = rw (← c.self.view_is) (full-is k c.entries-made.result c.notes_out-out.result c.entries-made.ensures.entries (said.away c.self.invariant.mode) said.many (sym c.is_full.ensures ∙ c.if-is_full.true));
+      does =
+          rw (← c.self.view_is) (full-is k c.entries-made.result c.notes_out-out.result c.entries-made.ensures.entries
+          (said.away c.self.invariant.mode) said.many (sym c.is_full.ensures ∙ c.if-is_full.true));
       legal = rw (← c.self.view_is) c.entries-made.ensures.legal;
       safe = rw (← c.self.view_is) c.entries-made.ensures.safe;
     }
@@ -42,11 +46,17 @@ pub returns-then-not-able : goal.returns-then-not-able
 returns-then-not-able c =
     let k = c.self.inside.kernel in
     let told = c.notes_out-out.ensures in
-    let room = (room-is k c.entries-made.result c.notes_out-out.result c.entries-made.ensures.entries (told.away c.self.invariant.mode) told.many (sym c.is_full.ensures ∙ c.if-is_full.false)).1 in
+    let room = (room-is k c.entries-made.result c.notes_out-out.result c.entries-made.ensures.entries
+    (told.away c.self.invariant.mode) told.many (sym c.is_full.ensures ∙ c.if-is_full.false)).1 in
     record {
       base = refl;
       grown = begins_itself c.args.self.now.history;
-      does = rw (← c.self.view_is) (record { refuses = record { same = refl; at = c.entries-made.ensures.entries }; room = room; unable = sym (c.able.ensures true c.self.invariant.mode) ∙ c.if-not-able.true });
+      does =
+          rw (← c.self.view_is) (record {
+            refuses = record { same = refl; at = c.entries-made.ensures.entries };
+            room = room;
+            unable = sym (c.able.ensures true c.self.invariant.mode) ∙ c.if-not-able.true;
+          });
       legal = rw (← c.self.view_is) c.entries-made.ensures.legal;
       safe = rw (← c.self.view_is) c.entries-made.ensures.safe;
     }
@@ -57,11 +67,14 @@ returns c =
     let l = c.act_out.new.kernel in
     let said = c.act_out.ensures in
     let told = c.notes_out-out.ensures in
-    let room = (room-is k c.entries-made.result c.notes_out-out.result c.entries-made.ensures.entries (told.away c.self.invariant.mode) told.many (sym c.is_full.ensures ∙ c.if-is_full.false)).1 in
+    let room = (room-is k c.entries-made.result c.notes_out-out.result c.entries-made.ensures.entries
+    (told.away c.self.invariant.mode) told.many (sym c.is_full.ensures ∙ c.if-is_full.false)).1 in
     record {
       base = said.base ∙ ap base_of c.self.view_is;
       grown = rw (← c.self.view_is) (acts-grown (base_of k) k.history l.history (Thread c.args.thread) c.act_out.result said.acts);
-      does = rw (c.did.ensures, ← c.self.view_is) (does-act (base_of k) k.history l.history c.args.thread c.act_out.result (record { room = room; able = sym (c.able.ensures true c.self.invariant.mode) ∙ c.if-not-able.false }) said.acts);
+      does =
+          rw (c.did.ensures, ← c.self.view_is) (does-act (base_of k) k.history l.history c.args.thread c.act_out.result
+          (record { room = room; able = sym (c.able.ensures true c.self.invariant.mode) ∙ c.if-not-able.false }) said.acts);
       legal = said.legal;
       safe = said.safe;
     }

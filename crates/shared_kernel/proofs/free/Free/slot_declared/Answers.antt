@@ -23,7 +23,9 @@ slot_out-requires c =
     record {
       shareable = c.self.invariant;
       declared = rw c.self.view_is c.requires;
-      room = (room-is k c.entries-made.result c.notes_out-out.result c.entries-made.ensures.entries (said.away c.self.invariant.mode) said.many (sym c.is_full.ensures ∙ c.if-is_full.false)).0;
+      room =
+          (room-is k c.entries-made.result c.notes_out-out.result c.entries-made.ensures.entries
+          (said.away c.self.invariant.mode) said.many (sym c.is_full.ensures ∙ c.if-is_full.false)).0;
     }
 
 pub returns-then-is_full : goal.returns-then-is_full
@@ -33,7 +35,12 @@ returns-then-is_full c =
     record {
       base = refl;
       grown = begins_itself c.args.self.now.history;
-      does = rw (← c.self.view_is) (rw c.self.view_is c.requires, full-is k c.entries-made.result c.notes_out-out.result c.entries-made.ensures.entries (said.away c.self.invariant.mode) said.many (sym c.is_full.ensures ∙ c.if-is_full.true));
+      does =
+          rw (← c.self.view_is) (
+            rw c.self.view_is c.requires,
+            full-is k c.entries-made.result c.notes_out-out.result c.entries-made.ensures.entries
+                (said.away c.self.invariant.mode) said.many (sym c.is_full.ensures ∙ c.if-is_full.true),
+          );
       legal = rw (← c.self.view_is) c.entries-made.ensures.legal;
       safe = rw (← c.self.view_is) c.entries-made.ensures.safe;
     }
@@ -44,11 +51,14 @@ returns c =
     let l = c.slot_out.new.kernel in
     let said = c.slot_out.ensures in
     let told = c.notes_out-out.ensures in
-    let room = (room-is k c.entries-made.result c.notes_out-out.result c.entries-made.ensures.entries (told.away c.self.invariant.mode) told.many (sym c.is_full.ensures ∙ c.if-is_full.false)).1 in
+    let room = (room-is k c.entries-made.result c.notes_out-out.result c.entries-made.ensures.entries
+    (told.away c.self.invariant.mode) told.many (sym c.is_full.ensures ∙ c.if-is_full.false)).1 in
     record {
       base = said.base ∙ ap base_of c.self.view_is;
       grown = rw (← c.self.view_is) (acts-grown (base_of k) k.history l.history (slot_after k.script k.history c.args.slot) c.slot_out.result said.acts);
-      does = rw (c.did.ensures, ← c.self.view_is) (does-slot (base_of k) k.history l.history c.args.slot c.slot_out.result (record { declared = rw c.self.view_is c.requires; room = room }) said.acts);
+      does =
+          rw (c.did.ensures, ← c.self.view_is) (does-slot (base_of k) k.history l.history c.args.slot c.slot_out.result
+          (record { declared = rw c.self.view_is c.requires; room = room }) said.acts);
       legal = said.legal;
       safe = said.safe;
     }

@@ -18,7 +18,11 @@ returns-then-next-len c =
     record {
       base = refl;
       grown = begins_itself c.args.self.now.history;
-      draws = rw (← c.self.view_is) (record { refuses = record { same = refl; at = c.entries.ensures.entries }; none = none-next k s.slots s.taken c.self.invariant (omega arith) });
+      draws =
+          rw (← c.self.view_is) (record {
+            refuses = record { same = refl; at = c.entries.ensures.entries };
+            none = none-next k s.slots s.taken c.self.invariant (omega arith);
+          });
       part = rw (← c.self.view_is) c.self.invariant.part;
       safe = rw (← c.self.view_is) c.entries.ensures.safe;
     }
@@ -29,7 +33,10 @@ slot_out-acted-requires c =
     let k = s.kernel in
     record {
       shareable = c.self.invariant.shareable;
-      declared = declared-next k.script (slots_taken k.history) c.get-slot.result c.self.invariant.shareable.valid (at-next s.slots k.script.slots s.taken (slots_taken k.history) c.get-slot.result c.self.invariant.slots c.self.invariant.taken c.get-slot.ensures);
+      declared =
+          declared-next k.script (slots_taken k.history) c.get-slot.result c.self.invariant.shareable.valid
+          (at-next s.slots k.script.slots s.taken
+          (slots_taken k.history) c.get-slot.result c.self.invariant.slots c.self.invariant.taken c.get-slot.ensures);
       room = room-next k s.slots s.taken c.self.invariant (omega arith);
     }
 
@@ -42,7 +49,8 @@ pub invariant_of-self : goal.invariant_of-self
 invariant_of-self c =
     let s = c.self.inside in
     let said = c.slot_out-acted.ensures in
-    scheduled-draw s.kernel s.slots s.taken c.self.invariant c.slot_out-acted.new.kernel said.shareable said.base said.legal c.get-slot.result c.slot_out-acted.result c.get-slot.ensures said.acts said.out
+    scheduled-draw s.kernel s.slots s.taken c.self.invariant c.slot_out-acted.new.kernel said.shareable said.base
+    said.legal c.get-slot.result c.slot_out-acted.result c.get-slot.ensures said.acts said.out
 
 pub returns : goal.returns
 returns c =
@@ -50,11 +58,15 @@ returns c =
     let k = s.kernel in
     let said = c.slot_out-acted.ensures in
     let l = c.slot_out-acted.new.kernel in
-    let on = scheduled-draw k s.slots s.taken c.self.invariant l said.shareable said.base said.legal c.get-slot.result c.slot_out-acted.result c.get-slot.ensures said.acts said.out in
-    let at = at-next s.slots k.script.slots s.taken (slots_taken k.history) c.get-slot.result c.self.invariant.slots c.self.invariant.taken c.get-slot.ensures in
+    let on = scheduled-draw k s.slots s.taken c.self.invariant l said.shareable said.base said.legal c.get-slot.result
+    c.slot_out-acted.result c.get-slot.ensures said.acts said.out in
+    let at = at-next s.slots k.script.slots s.taken
+    (slots_taken k.history) c.get-slot.result c.self.invariant.slots c.self.invariant.taken c.get-slot.ensures in
     record {
       base = said.base ∙ ap base_of c.self.view_is;
-      grown = rw (← c.self.view_is) (acts-grown (base_of k) k.history l.history (slot_after k.script k.history c.get-slot.result) c.slot_out-acted.result said.acts);
+      grown =
+          rw (← c.self.view_is) (acts-grown (base_of k) k.history l.history
+          (slot_after k.script k.history c.get-slot.result) c.slot_out-acted.result said.acts);
       draws = rw (c.drew.ensures, ← c.self.view_is) (draws-next (base_of k) k.history l.history c.get-slot.result c.slot_out-acted.result at said.acts);
       part = on.part;
       safe = said.safe;

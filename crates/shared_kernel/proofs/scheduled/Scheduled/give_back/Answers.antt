@@ -16,7 +16,8 @@ pub returns : goal.returns
 returns c =
     let s = c.self.inside in
     let said = c.come_back.ensures in
-    let on = scheduled-back s.kernel s.slots s.taken c.self.invariant c.come_back.new.kernel said.shareable said.base said.legal c.args.thread said.back.made said.fewer in
+    let on = scheduled-back s.kernel s.slots s.taken c.self.invariant c.come_back.new.kernel said.shareable said.base
+    said.legal c.args.thread said.back.made said.fewer in
     record {
       base = said.base ∙ ap base_of c.self.view_is;
       grown = rw (← c.self.view_is) (record { rest = said.back.made.more.entry ∷ []; is = sym said.back.made.more.longer });

@@ -14,13 +14,22 @@ pub enter-turn-requires : goal.enter-turn-requires
 enter-turn-requires g c = rw c.self.view_is c.requires.free
 
 pub give_back-place-requires : goal.give_back-place-requires
-give_back-place-requires g c = record { opened = still-opened c.self.inside.turns c.args.self.now c.enter-turn.result.value c.value.result.now c.args.pass.now c.enter-turn.new.pass c.args.t c.args.ticket c.self.view_is c.enter-turn.ensures.known c.enter-turn.ensures.list c.enter-turn.ensures.base c.value.ensures.value c.requires.opened }
+give_back-place-requires g c = record {
+  opened =
+      still-opened c.self.inside.turns c.args.self.now c.enter-turn.result.value c.value.result.now c.args.pass.now
+      c.enter-turn.new.pass c.args.t c.args.ticket c.self.view_is c.enter-turn.ensures.known c.enter-turn.ensures.list
+      c.enter-turn.ensures.base c.value.ensures.value c.requires.opened;
+}
 
 pub leave-requires : goal.leave-requires
 leave-requires g c = record {
   turn = c.enter-turn.ensures.turn;
-  base = leaves-base c.self.inside.turns.base c.enter-turn.result.value c.value.result.now c.give_back-place.new.self c.enter-turn.ensures.base c.value.ensures.value c.give_back-place.ensures.base;
-  grown = leaves-grown (entries_of (known_of c.enter-turn.new.pass)) c.enter-turn.result.value c.value.result.now c.give_back-place.new.self c.enter-turn.ensures.list c.value.ensures.value c.give_back-place.ensures.grown;
+  base =
+      leaves-base c.self.inside.turns.base c.enter-turn.result.value c.value.result.now c.give_back-place.new.self
+      c.enter-turn.ensures.base c.value.ensures.value c.give_back-place.ensures.base;
+  grown =
+      leaves-grown (entries_of (known_of c.enter-turn.new.pass)) c.enter-turn.result.value c.value.result.now
+      c.give_back-place.new.self c.enter-turn.ensures.list c.value.ensures.value c.give_back-place.ensures.grown;
 }
 
 pub returns : goal.returns
@@ -51,7 +60,9 @@ returns g c =
     record {
       free = call-free turns lock given lent left old mid new call;
       caller = call-caller turns lock given lent left old mid new call;
-      back = call-turned turns lock given lent left old mid new call (λ (b : KernelBase). GivesBack b c.args.t c.give_back-place.result) c.give_back-place.ensures.back;
+      back =
+          call-turned turns lock given lent left old mid new call
+          (λ (b : KernelBase). GivesBack b c.args.t c.give_back-place.result) c.give_back-place.ensures.back;
       part = call-holds turns lock given lent left old mid new call IsSharedPart c.give_back-place.ensures.part;
       safe = call-holds turns lock given lent left old mid new call (λ (s : Script) (h : List Entry). IsSafeIn true s h) c.give_back-place.ensures.safe;
       made = call-made turns lock given lent left old mid new call;

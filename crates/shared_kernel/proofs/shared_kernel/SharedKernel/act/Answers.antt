@@ -16,8 +16,12 @@ enter-turn-requires g c = rw c.self.view_is c.requires
 pub leave-requires : goal.leave-requires
 leave-requires g c = record {
   turn = c.enter-turn.ensures.turn;
-  base = leaves-base c.self.inside.turns.base c.enter-turn.result.value c.value.result.now c.act-did.new.self c.enter-turn.ensures.base c.value.ensures.value c.act-did.ensures.base;
-  grown = leaves-grown (entries_of (known_of c.enter-turn.new.pass)) c.enter-turn.result.value c.value.result.now c.act-did.new.self c.enter-turn.ensures.list c.value.ensures.value c.act-did.ensures.grown;
+  base =
+      leaves-base c.self.inside.turns.base c.enter-turn.result.value c.value.result.now c.act-did.new.self
+      c.enter-turn.ensures.base c.value.ensures.value c.act-did.ensures.base;
+  grown =
+      leaves-grown (entries_of (known_of c.enter-turn.new.pass)) c.enter-turn.result.value c.value.result.now
+      c.act-did.new.self c.enter-turn.ensures.list c.value.ensures.value c.act-did.ensures.grown;
 }
 
 pub returns : goal.returns

@@ -14,7 +14,8 @@ close-requires c = record { free = rw c.self.view_is c.requires.free; all = rw c
 pub returns : goal.returns
 returns c =
     let same = c.into_kernel.ensures.kernel in
-    let base : base_of c.into_kernel.result ≡ c.args.self.base = ap base_of same ∙ c.close.ensures.base ∙ ap (λ (l : LockId KernelBase). l.base) c.self.view_is in
+    let base : base_of c.into_kernel.result ≡ c.args.self.base = ap base_of same ∙ c.close.ensures.base
+    ∙ ap (λ (l : LockId KernelBase). l.base) c.self.view_is in
     let whole = c.close.ensures.whole in
     record {
       script = ap (λ (b : KernelBase). b.script) base;
