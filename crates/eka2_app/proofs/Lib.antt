@@ -1,3 +1,4 @@
+mod CallersKeep
 pub mod Ended
 pub mod EndedCheck
 pub mod OneReading

@@ -1,3 +1,4 @@
+pub mod Callers
 pub mod Outcomes
 pub mod Readings
 pub mod StatusNumber

@@ -7,9 +7,10 @@ use edge_io::{MemSink, MemSource};
 use std::test::Fail;
 
 /// A client is killed between two pieces of a copy.
-const KILLED_SCRIPT: &str =
+pub const KILLED_SCRIPT: &str =
     "eka2 1\nidfc w device d0 0\nirq 0 idfc w\nprocess ps\nthread sv 20\nserver files r0\nreceive r0 m0\ncomplete m0 0\nreceive r0 m1\nread m1 0 0 100 0\npeek 63\npeek 64\nprocess pc\nthread c 10\nfill 0 100 65\nconnect files 1 r0\ncall r0 1 d:0:100:100 0 0 0\nprocess pz\nthread z 30\nopen thread c r0\nrequest d0 s0\nwaitany\nkill r0 4\nschedule\ngo 28\nirq 0\ngo 16\nend\n";
 
+/// Its history.
 pub const KILLED_HISTORY: &str = "\
 1 t7 open.seek seek:5
 2 t7 open.return +tmp7:5
@@ -69,10 +70,11 @@ end
 ";
 
 /// A descriptor takes as many bytes as it may have, and not one more.
-const TOO_LONG_SCRIPT: &str =
+pub const TOO_LONG_SCRIPT: &str =
     "eka2 1\nprocess ps\nthread sv 20\nserver files r0\nfill 0 32 7\nreceive r0 m0\ncomplete m0 0\nreceive r0 m1\nwrite m1 0 0 16 0\nwrite m1 0 0 17 0\ncomplete m1 3\nprocess pc\nthread c 10\nconnect files 1 r0\ncall r0 1 d:8:0:16 0 0 0\npeek 8\npeek 24\nschedule\ngo 41\nend\n";
 
-const TOO_LONG_HISTORY: &str = "\
+/// Its history.
+pub const TOO_LONG_HISTORY: &str = "\
 1 t3 server.do +own3:6 +t3.0:6 = 1073807360
 2 t3 fill.do = 0
 3 t3 receive.look +tmp3:6

@@ -3,10 +3,11 @@ use crate::tests::{Case, WELL, expect_case};
 use std::test::Fail;
 
 /// A thread finds a mutex, and before it opens it another closes it and ends.
-const MISSED_SCRIPT: &str =
+pub const MISSED_SCRIPT: &str =
     "eka2 1\nidfc w device d0 0\nirq 0 idfc w\nprocess p\nthread h 20\ncreate mutex m r0\nrequest d0 s0\nwaitany\nclose r0\nthread a 10\nopen mutex m r1\nschedule\ngo 4\nirq 0\ngo 12\nend\n";
 
-const MISSED_HISTORY: &str = "\
+/// Its history.
+pub const MISSED_HISTORY: &str = "\
 1 t3 create.do +p2.0:5 = 65536
 2 t3 request.do = 0
 3 t3 waitany.do
@@ -68,10 +69,11 @@ end
 ";
 
 /// A kill is put off by a fast mutex.
-const PUT_OFF_SCRIPT: &str =
+pub const PUT_OFF_SCRIPT: &str =
     "eka2 1\nfast 1\nkthread k 10\nflock f0\nfssignal z\nfunlock f0\nkthread z 20\nfswait\nopen thread k r0\nkill r0 5\nschedule\ngo 18\nend\n";
 
-const PUT_OFF_HISTORY: &str = "\
+/// Its history.
+pub const PUT_OFF_HISTORY: &str = "\
 1 t3 fswait.do
 2 t2 flock.do take:2:f0 = 0
 3 t2 fssignal.do = 0
@@ -98,10 +100,11 @@ end
 ";
 
 /// A thread dies that has locked a mutex twice, for which another waits.
-const DEAD_OWNER_SCRIPT: &str =
+pub const DEAD_OWNER_SCRIPT: &str =
     "eka2 1\nidfc w device d0 0\nirq 0 idfc w\nprocess p1\nthread a 20\ncreate mutex m r0\nlock r0\nlock r0\nrequest d0 s0\nwaitany\nexit 1\nprocess p2\nthread b 10\nopen mutex m r0\nlock r0\nschedule\ngo 15\nirq 0\ngo 13\nend\n";
 
-const DEAD_OWNER_HISTORY: &str = "\
+/// Its history.
+pub const DEAD_OWNER_HISTORY: &str = "\
 1 t3 create.do +p2.0:6 = 65536
 2 t3 lock.look +tmp3:6
 3 t3 lock.do take:3:6 +own3:6 = 0

@@ -3,6 +3,10 @@
 #![tactic(auto)]
 
 #[cfg(test)]
+mod both_ways_tests;
+#[cfg(test)]
+mod callers;
+#[cfg(test)]
 mod check_tests;
 #[cfg(test)]
 mod command_tests;
@@ -15,7 +19,17 @@ mod death_tests;
 #[cfg(test)]
 mod fault_tests;
 #[cfg(test)]
+mod judging;
+#[cfg(test)]
+mod late_tests;
+#[cfg(test)]
 mod server_tests;
+#[cfg(test)]
+mod shared_runs;
+#[cfg(test)]
+mod shared_tests;
+#[cfg(test)]
+mod shared_texts;
 mod status;
 #[cfg(test)]
 mod storm_tables;

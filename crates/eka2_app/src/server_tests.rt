@@ -4,10 +4,11 @@ use crate::tests::{Case, expect_case};
 use std::test::Fail;
 
 /// A session with one message slot, which the first message has when the second is sent.
-const ONE_SLOT_SCRIPT: &str =
+pub const ONE_SLOT_SCRIPT: &str =
     "eka2 1\nidfc w device d0 0\nirq 0 idfc w\nprocess ps\nthread sv 20\nserver files r0\nreceive r0 m0\ncomplete m0 0\nreceive r0 m1\nrequest d0 s0\nwaitany\ncomplete m1 5\nreceive r0 m2\nprocess pc\nthread c 10\nconnect files 1 r0\nsend r0 1 s0 0 0 0 0\nsend r0 2 s1 0 0 0 0\nwaitfor s0\nsend r0 3 s1 0 0 0 0\nschedule\ngo 27\nirq 0\ngo 10\nend\n";
 
-const ONE_SLOT_HISTORY: &str = "\
+/// Its history.
+pub const ONE_SLOT_HISTORY: &str = "\
 1 t3 server.do +own3:6 +t3.0:6 = 1073807360
 2 t3 receive.look +tmp3:6
 3 t3 receive.do
@@ -92,7 +93,8 @@ end
 pub const DYING_SERVER_SCRIPT: &str =
     "eka2 1\nidfc w device d0 0\nirq 0 idfc w\nprocess ps\nthread sv 20\nserver files r0\nreceive r0 m0\ncomplete m0 0\nreceive r0 m1\nreceive r0 m2\ncomplete m2 0\nrequest d0 s0\nwaitany\nexit 9\nprocess pc\nthread c 10\nconnect files 2 r0\nsend r0 1 s0 0 0 0 0\nwaitany\nstatus s0\nprocess pe\nthread e 9\nconnect files 2 r0\nsend r0 1 s0 0 0 0 0\nschedule\ngo 45\nirq 0\ngo 29\nend\n";
 
-const DYING_SERVER_HISTORY: &str = "\
+/// Its history.
+pub const DYING_SERVER_HISTORY: &str = "\
 1 t3 server.do +own3:8 +t3.0:8 = 1073807360
 2 t3 receive.look +tmp3:8
 3 t3 receive.do
@@ -178,10 +180,11 @@ end
 ";
 
 /// A session dies while its server is closing.
-const CLOSING_SERVER_SCRIPT: &str =
+pub const CLOSING_SERVER_SCRIPT: &str =
     "eka2 1\nprocess ps\nthread sv 10\nserver files r0\nreceive r0 m0\ncomplete m0 0\nexit 1\nprocess pc\nthread c 10\nconnect files 1 r0\nclose r0\nschedule\ngo 14\ntick\ngo 2\ntick\ngo 1\ntick\ngo 2\nend\n";
 
-const CLOSING_SERVER_HISTORY: &str = "\
+/// Its history.
+pub const CLOSING_SERVER_HISTORY: &str = "\
 1 t3 server.do +own3:6 +t3.0:6 = 1073807360
 2 t3 receive.look +tmp3:6
 3 t3 receive.do

@@ -38,7 +38,8 @@ end
 pub const DYING_SCRIPT: &str =
     "eka2 1\nprocess p\nthread a 10\ncreate mutex m r0\nclose r0\nthread b 10\nopen mutex m r1\nschedule\ngo 1\ntick\ngo 1\ntick\ngo 1\ntick\ngo 1\ntick\ngo 1\nend\n";
 
-const DYING_HISTORY: &str = "\
+/// Its history.
+pub const DYING_HISTORY: &str = "\
 1 t3 create.do +p2.0:5 = 65536
 2 tick turn
 3 t4 open.seek seek:5
