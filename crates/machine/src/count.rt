@@ -1,6 +1,6 @@
-//! Counting references by going over all the rows that hold one. Counts stand still at the end of their
-//! type, which no state that a history leaves comes near.
-ghost use Rattle.std.specs.Prelude.{◌≡◌, ◌-◌, ◌^◌, ◌<◌, ◌≤◌, min, nat_lt};
+//! Counting references by going over the rows that hold one, up to a number at which counting stops: whether an object has
+//! a further reference is known at the second, and the rows behind aren't looked at.
+ghost use Rattle.std.specs.Prelude.{◌≡◌, ◌+◌, ◌<◌, ◌≤◌, min, nat_lt};
 ghost use Rattle.machine.specs.References.{total, same, option_names, slot_names, thread_names, owed_names, mutex_names, session_names, message_names, server_names, kernel_names, stage_holds, count_of};
 ghost use Rattle.machine.specs.Kept.{is_kept, dies};
 
@@ -49,79 +49,114 @@ fn owed_names(object: ObjNo, owed: &Owed) -> u32
     }
 }
 
-/// How often a handle table refers to an object.
-fn table_total(object: ObjNo, table: &[HandleSlot]) -> u32
-    ensures { result ≡ min (total (slot_names object) table.now) (2 ^ 32 - 1) }
+/// So many references more, up to the number at which counting stops.
+fn counted(count: u32, more: u32, most: u32) -> u32
+    ensures { result ≡ min (count + more) most }
 {
-    let mut count: u32 = 0;
+    count.saturating_add(more).min(most)
+}
+
+/// So many references, and those of a handle table to an object.
+fn table_total(object: ObjNo, table: &[HandleSlot], count: u32, most: u32) -> u32
+    requires { count ≤ most }
+    ensures { result ≡ min (count + total (slot_names object) table.now) most }
+{
+    let mut count = count;
     for slot in table {
-        count = count.saturating_add(option_names(object, slot.object));
+        if count == most {
+            return most;
+        }
+        count = counted(count, option_names(object, slot.object), most);
     }
     count
 }
 
-/// How often the handle tables refer to an object.
-fn tables_total(object: ObjNo, tables: &[Items<HandleSlot>]) -> u32
-    ensures { result ≡ min (total (total (slot_names object)) tables.now) (2 ^ 32 - 1) }
+/// So many references, and those of the handle tables to an object.
+fn tables_total(object: ObjNo, tables: &[Items<HandleSlot>], count: u32, most: u32) -> u32
+    requires { count ≤ most }
+    ensures { result ≡ min (count + total (total (slot_names object)) tables.now) most }
 {
-    let mut count: u32 = 0;
+    let mut count = count;
     for table in tables {
-        count = count.saturating_add(table_total(object, table.as_slice()));
+        if count == most {
+            return most;
+        }
+        count = table_total(object, table.as_slice(), count, most);
     }
     count
 }
 
-/// How often the threads refer to an object.
-fn threads_total(object: ObjNo, threads: &[Option<ThreadRow>]) -> u32
-    ensures { result ≡ min (total (thread_names object) threads.now) (2 ^ 32 - 1) }
+/// So many references, and those of the threads to an object.
+fn threads_total(object: ObjNo, threads: &[Option<ThreadRow>], count: u32, most: u32) -> u32
+    requires { count ≤ most }
+    ensures { result ≡ min (count + total (thread_names object) threads.now) most }
 {
-    let mut count: u32 = 0;
+    let mut count = count;
     for row in threads {
-        count = count.saturating_add(thread_names(object, row));
+        if count == most {
+            return most;
+        }
+        count = counted(count, thread_names(object, row), most);
     }
     count
 }
 
-/// How often what a thread owes stands for a reference to an object.
-fn duties_total(object: ObjNo, duties: &[Owed]) -> u32
-    ensures { result ≡ min (total (owed_names object) duties.now) (2 ^ 32 - 1) }
+/// So many references, and those that what a thread owes stands for.
+fn duties_total(object: ObjNo, duties: &[Owed], count: u32, most: u32) -> u32
+    requires { count ≤ most }
+    ensures { result ≡ min (count + total (owed_names object) duties.now) most }
 {
-    let mut count: u32 = 0;
+    let mut count = count;
     for owed in duties {
-        count = count.saturating_add(owed_names(object, owed));
+        if count == most {
+            return most;
+        }
+        count = counted(count, owed_names(object, owed), most);
     }
     count
 }
 
-/// How often what the threads owe stands for a reference to an object.
-fn owed_total(object: ObjNo, owed: &[Items<Owed>]) -> u32
-    ensures { result ≡ min (total (total (owed_names object)) owed.now) (2 ^ 32 - 1) }
+/// So many references, and those that what the threads owe stands for.
+fn owed_total(object: ObjNo, owed: &[Items<Owed>], count: u32, most: u32) -> u32
+    requires { count ≤ most }
+    ensures { result ≡ min (count + total (total (owed_names object)) owed.now) most }
 {
-    let mut count: u32 = 0;
+    let mut count = count;
     for duties in owed {
-        count = count.saturating_add(duties_total(object, duties.as_slice()));
+        if count == most {
+            return most;
+        }
+        count = duties_total(object, duties.as_slice(), count, most);
     }
     count
 }
 
-/// How often a thread owns an object, by the mutexes that it holds or the servers that it made.
-fn listed_total(object: ObjNo, owned: &[ObjNo]) -> u32
-    ensures { result ≡ min (total (mutex_names object) owned.now) (2 ^ 32 - 1) }
+/// So many references, and those of a thread that owns an object, by the mutexes that it holds or the servers that it made.
+fn listed_total(object: ObjNo, owned: &[ObjNo], count: u32, most: u32) -> u32
+    requires { count ≤ most }
+    ensures { result ≡ min (count + total (mutex_names object) owned.now) most }
 {
-    let mut count: u32 = 0;
+    let mut count = count;
     for one in owned {
-        count = count.saturating_add(same(*one, object));
+        if count == most {
+            return most;
+        }
+        count = counted(count, same(*one, object), most);
     }
     count
 }
 
-/// How often the threads own an object.
-fn lists_total(object: ObjNo, lists: &[Items<ObjNo>]) -> u32
-    ensures { result ≡ min (total (total (mutex_names object)) lists.now) (2 ^ 32 - 1) }
+/// So many references, and those of the threads that own an object.
+fn lists_total(object: ObjNo, lists: &[Items<ObjNo>], count: u32, most: u32) -> u32
+    requires { count ≤ most }
+    ensures { result ≡ min (count + total (total (mutex_names object)) lists.now) most }
 {
-    let mut count: u32 = 0;
+    let mut count = count;
     for owned in lists {
-        count = count.saturating_add(listed_total(object, owned.as_slice()));
+        if count == most {
+            return most;
+        }
+        count = listed_total(object, owned.as_slice(), count, most);
     }
     count
 }
@@ -137,13 +172,17 @@ fn session_names(object: ObjNo, session: &Option<SessionRow>) -> u32
     }
 }
 
-/// How often the sessions are linked to an object.
-fn sessions_total(object: ObjNo, sessions: &[Option<SessionRow>]) -> u32
-    ensures { result ≡ min (total (session_names object) sessions.now) (2 ^ 32 - 1) }
+/// So many references, and those of the sessions that are linked to an object.
+fn sessions_total(object: ObjNo, sessions: &[Option<SessionRow>], count: u32, most: u32) -> u32
+    requires { count ≤ most }
+    ensures { result ≡ min (count + total (session_names object) sessions.now) most }
 {
-    let mut count: u32 = 0;
+    let mut count = count;
     for session in sessions {
-        count = count.saturating_add(session_names(object, session));
+        if count == most {
+            return most;
+        }
+        count = counted(count, session_names(object, session), most);
     }
     count
 }
@@ -156,29 +195,45 @@ fn message_names(object: ObjNo, message: &Message) -> u32
     same(message.row.session, object) + same(message.row.client, object)
 }
 
-/// How often the outstanding messages refer to an object.
-fn messages_total(object: ObjNo, outstanding: &[Message]) -> u32
-    ensures { result ≡ min (total (message_names object) outstanding.now) (2 ^ 32 - 1) }
+/// So many references, and those of the outstanding messages to an object.
+fn messages_total(object: ObjNo, outstanding: &[Message], count: u32, most: u32) -> u32
+    requires { count ≤ most }
+    ensures { result ≡ min (count + total (message_names object) outstanding.now) most }
 {
-    let mut count: u32 = 0;
+    let mut count = count;
     for message in outstanding {
-        count = count.saturating_add(message_names(object, message));
+        if count == most {
+            return most;
+        }
+        count = counted(count, message_names(object, message), most);
     }
     count
 }
 
-/// How often servers, sessions and messages make for a reference to an object.
-fn server_names(state: &State, object: ObjNo) -> u32
-    ensures { result ≡ min (server_names state.now object) (2 ^ 32 - 1) }
+/// So many references, and those of servers, sessions and messages to an object.
+fn serving_total(state: &State, object: ObjNo, count: u32, most: u32) -> u32
+    requires { count ≤ most }
+    ensures { result ≡ min (count + server_names state.now object) most }
 {
-    lists_total(object, state.serving.owned.as_slice())
-        .saturating_add(sessions_total(object, state.serving.servers.sessions.as_slice()))
-        .saturating_add(messages_total(object, state.serving.messages.outstanding.as_slice()))
+    let count = messages_total(
+        object,
+        state.serving.messages.outstanding.as_slice(),
+        count,
+        most,
+    );
+    let count = lists_total(object, state.serving.owned.as_slice(), count, most);
+    sessions_total(
+        object,
+        state.serving.servers.sessions.as_slice(),
+        count,
+        most,
+    )
 }
 
 /// 1 until a thread's burial, then 0.
 fn stage_holds(stage: Stage) -> u32
-    ensures { result ≡ stage_holds stage }
+    ensures number { result ≡ stage_holds stage }
+    ensures bit { result ≤ 1 }
 {
     match stage {
         Stage::Buried => 0,
@@ -188,7 +243,8 @@ fn stage_holds(stage: Stage) -> u32
 
 /// How often the kernel itself refers to an object: it holds each thread until its burial.
 fn kernel_names(state: &State, object: ObjNo) -> u32
-    ensures { result ≡ kernel_names state.now object }
+    ensures number { result ≡ kernel_names state.now object }
+    ensures bit { result ≤ 1 }
 {
     match thread_of(state, object) {
         Some(row) => stage_holds(row.stage),
@@ -196,19 +252,22 @@ fn kernel_names(state: &State, object: ObjNo) -> u32
     }
 }
 
-/// The number of references to an object.
-fn capped_count(state: &State, object: ObjNo) -> u32
-    ensures { result ≡ min (count_of state.now object) (2 ^ 32 - 1) }
+/// The number of references to an object, up to a number at which counting stops. The short lists come first.
+fn capped_count(state: &State, object: ObjNo, most: u32) -> u32
+    requires { 1 ≤ most }
+    ensures { result ≡ min (count_of state.now object) most }
 {
-    let handles = tables_total(object, state.references.handles.as_slice());
-    let threads = threads_total(object, state.references.threads.as_slice());
-    let owed = owed_total(object, state.references.owed.as_slice());
-    handles
-        .saturating_add(threads)
-        .saturating_add(kernel_names(state, object))
-        .saturating_add(owed)
-        .saturating_add(lists_total(object, state.synchronization.mutexes.as_slice()))
-        .saturating_add(server_names(state, object))
+    let count = kernel_names(state, object);
+    let count = threads_total(object, state.references.threads.as_slice(), count, most);
+    let count = owed_total(object, state.references.owed.as_slice(), count, most);
+    let count = lists_total(
+        object,
+        state.synchronization.mutexes.as_slice(),
+        count,
+        most,
+    );
+    let count = tables_total(object, state.references.handles.as_slice(), count, most);
+    serving_total(state, object, count, most)
 }
 
 /// The count of an object: the number of references to it.
@@ -216,15 +275,15 @@ pub fn count_of(state: &State, object: ObjNo) -> u32
     requires { count_of state.now object < 65536 }
     ensures { result ≡ count_of state.now object }
 {
-    capped_count(state, object)
+    capped_count(state, object, u32::MAX)
 }
 
 /// Whether an object has a reference.
-#[tactic(auto, using(crate::proofs::Capped::capped_above_none))]
+#[tactic(auto, using(crate::proofs::Capped::one_above_none))]
 pub fn is_counted(state: &State, object: ObjNo) -> bool
     ensures { result ≡ nat_lt 0 (count_of state.now object) }
 {
-    capped_count(state, object) > 0
+    capped_count(state, object, 1) == 1
 }
 
 /// Whether an object on which somebody is out is kept as its last reference is given up.
@@ -235,9 +294,9 @@ fn is_kept(state: &State, object: ObjNo) -> bool
 }
 
 /// Whether an object dies as one of its references is given up: it has no other, and isn't kept.
-#[tactic(auto, using(crate::proofs::Capped::capped_is_one))]
+#[tactic(auto, using(crate::proofs::Capped::two_is_one))]
 pub fn dies(state: &State, object: ObjNo) -> bool
     ensures { result ≡ dies state.now object }
 {
-    capped_count(state, object) == 1 && !is_kept(state, object)
+    capped_count(state, object, 2) == 1 && !is_kept(state, object)
 }
