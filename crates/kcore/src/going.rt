@@ -24,13 +24,22 @@ use ref_words::RefWords;
 use script_types::{Script, Slot};
 use sym_base::{ObjNo, ThreadNo};
 
+/// The interrupt that a slot brings. Most slots bring none.
+#[cold]
+#[inline(never)]
+fn interrupt(number: u8) -> Actor
+    ensures { result ≡ Actor.Irq number }
+{
+    Actor::Irq(number)
+}
+
 /// Whom a slot lets act.
 pub fn slot_actor<W: RefWords + Drop>(core: &Core<W>, slot: Slot) -> Actor
     ensures { (qs : List ObjNo) → AreQueuesOf (pairs (priority_of core.now.state) qs) core.now.ready → result ≡ slot_actor core.now.state qs slot }
 {
     match slot {
         Slot::Go => core.chosen(),
-        Slot::Irq(number) => Actor::Irq(number),
+        Slot::Irq(number) => interrupt(number),
         Slot::Tick => Actor::Tick,
     }
 }

@@ -47,6 +47,7 @@ pub fn gain_slot(tables: &mut Items<Handles>, holder: Holder, object: ObjNo)
 }
 
 /// A holder gives its reference up: where it is a handle, that goes.
+#[inline(always)]
 pub fn lose_slot(tables: &mut Items<Handles>, holder: Holder)
     ensures { slots_of tables.new ≡ tables_lose holder (slots_of tables.old) }
 {

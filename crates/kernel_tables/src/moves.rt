@@ -146,6 +146,7 @@ fn make_other<W: RefWords + Drop>(tables: &mut Tables<W>, thread: ThreadNo, chan
 }
 
 /// One move in an action of a thread. An object that died of it is answered.
+#[inline(always)]
 pub fn make_move<W: RefWords + Drop>(
     tables: &mut Tables<W>,
     thread: ThreadNo,

@@ -170,6 +170,7 @@ impl<W: RefWords + Drop> Reads for Tables<W> {
         self.cleanup.first_logon(thread)
     }
 
+    #[inline(always)]
     fn first_work(&self, thread: ThreadNo) -> Option<Holding> {
         first_work(self, thread)
     }

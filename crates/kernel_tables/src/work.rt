@@ -26,6 +26,7 @@ fn first_of<W: RefWords + Drop>(tables: &Tables<W>, server: ObjNo) -> Holding
 }
 
 /// The first of what a thread has of its closing servers.
+#[inline(always)]
 #[tactic(auto, using(plain_reads::proofs::Work::first_of_closing, plain_reads::proofs::Work::none_closing))]
 pub fn first_work<W: RefWords + Drop>(tables: &Tables<W>, thread: ThreadNo) -> Option<Holding>
     requires { tables.now.cleanup.objects ≡ OBJECTS }
