@@ -21,7 +21,8 @@ pub not_large : (left : Option (List ℕ)) (input : List ℕ) → IfSome left (�
 not_large left input same few large = let big : 1048576 < length input = of_input IsLargeInput left input same large in absurd (omega arith)
 
 -- what holds of a refusal's line and reason holds of those of an equal one
-pub same_refusal : {A : Type 0} (P : ℕ → Reason → Type 0) (l line : ℕ) (r why : Reason) → ◌≡◌ {A = Result A RunFault} (Err (fault.Refused l r)) (Err (fault.Refused line why)) → P l r → P line why
+pub same_refusal : {A : Type 0} (P : ℕ → Reason → Type 0) (l line : ℕ) (r why : Reason)
+    → ◌≡◌ {A = Result A RunFault} (Err (fault.Refused l r)) (Err (fault.Refused line why)) → P l r → P line why
 same_refusal P l line r why same holds =
     let at : l ≡ line = cc in
     let reason : r ≡ why = cc in

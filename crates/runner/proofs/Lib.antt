@@ -1,4 +1,6 @@
 mod CheckedInputs
+mod Ends
+mod Alone
 mod Judged
 mod Runs
 mod ScriptPart

@@ -20,13 +20,21 @@ abbrev pub next_entry : Script → List Entry → Slot → Entry
 next_entry script history slot = entry_by script (after script history) (length history + 1) (slot_actor (after script history) (arrived script history) slot)
 
 -- a history and the run of the slots that are left, one slot later
-pub run_next : (script : Script) (history : List Entry) (slot : Slot) (rest : List Slot) (whole : List Entry) → history ++ run_from script (after script history) (arrived script history) (length history + 1) (slot ∷ rest) ≡ whole → let longer = history ++ next_entry script history slot ∷ [] in longer ++ run_from script (after script longer) (arrived script longer) (length longer + 1) rest ≡ whole
+pub run_next : (script : Script) (history : List Entry) (slot : Slot) (rest : List Slot) (whole : List Entry)
+    → history ++ run_from script (after script history) (arrived script history) (length history + 1) (slot ∷ rest) ≡ whole
+    → let longer = history ++ next_entry script history slot ∷ [] in
+    longer ++ run_from script (after script longer) (arrived script longer) (length longer + 1) rest ≡ whole
 run_next script history slot rest whole h =
     let e = next_entry script history slot in
     rw (append_assoc, after_longer script history e, arrived_longer script history e, length-append {A = Entry}) h
 
 -- one slot of the schedule was taken
-pub run_step : (script : Script) (history new : List Entry) (i : ℕ) (whole : List Entry) → i < length script.slots → new ≡ history ++ next_entry script history (get_or script.slots i Go) ∷ [] → history ++ run_from script (after script history) (arrived script history) (length history + 1) (drop i script.slots) ≡ whole → new ++ run_from script (after script new) (arrived script new) (length new + 1) (drop (i + 1) script.slots) ≡ whole
+pub run_step : (script : Script) (history new : List Entry) (i : ℕ) (whole : List Entry) → i < length script.slots
+    → new ≡ history ++ next_entry script history (get_or script.slots i Go) ∷ []
+    → history ++ run_from script (after script history) (arrived script history) (length history + 1)
+    (drop i script.slots) ≡ whole
+    → new ++ run_from script (after script new) (arrived script new) (length new + 1) (drop (i + 1) script.slots)
+    ≡ whole
 run_step script history new i whole h made rest =
     let left = drop_more script.slots i Go h in
     let rest = rw left at rest in
@@ -39,7 +47,9 @@ run_longer history new e made = ap length made ∙ length-append history (e ∷ 
 -- a run has an entry for each slot, and so few entries
 length-run_from : (script : Script) (S : State) (qs : List ObjNo) (place : ℕ) (slots : List Slot) → length (run_from script S qs place slots) ≡ length slots
 length-run_from script S qs place [] = refl
-length-run_from script S qs place (slot ∷ slots) = let actor = slot_actor S qs slot in ap suc (length-run_from script (next script S actor) (arrived_next script S actor qs) (place + 1) slots)
+length-run_from script S qs place (slot ∷ slots) =
+    let actor = slot_actor S qs slot in
+    ap suc (length-run_from script (next script S actor) (arrived_next script S actor qs) (place + 1) slots)
 
 pub run_few : (script : Script) → IsWellFormed script → length (run script) ≤ 65536
 run_few script valid = omega (arith, length-run_from script (boot script) (ready_at_boot script) 1 script.slots, valid_slots_few script valid)

@@ -1,5 +1,5 @@
 -- The script's part of an input isn't longer than the input.
-use Rattle.std.proofs.Common.{◌≡◌, ℕ, ◌+◌, ◌≤◌, Bool, true, false, List, [], ◌∷◌, ◌++◌, length, length-append, arith}
+use Rattle.std.proofs.Common.{ℕ, ◌+◌, ◌≤◌, Bool, true, false, List, [], ◌∷◌, length, length-append, arith}
 use Rattle.std.specs.Prelude.{◌==◌, if◌then◌else◌}
 use Rattle.script_types.specs.SourceText.{in_first, split}
 use Rattle.history_check.specs.InputParts.{is_end, script_part, to_end}

@@ -20,7 +20,8 @@ shown-append detail.Whole es fs = refl
 shown-append detail.Brief es fs = filter-append (λ (e : Entry). is_some e.answer) es fs
 
 -- the lines of what is left: the first's, where it is shown, and then those of the rest
-pub next_shown : (d : Detail) (left rest : List Entry) (e : Entry) → left ≡ e ∷ rest → flat_map entry_line (shown d left) ≡ flat_map entry_line (shown d (e ∷ [])) ++ flat_map entry_line (shown d rest)
+pub next_shown : (d : Detail) (left rest : List Entry) (e : Entry) → left ≡ e ∷ rest
+    → flat_map entry_line (shown d left) ≡ flat_map entry_line (shown d (e ∷ [])) ++ flat_map entry_line (shown d rest)
 next_shown d left rest e h =
     rw h (ap (flat_map entry_line) (shown-append d (e ∷ []) rest) ∙ flat_map-append entry_line (shown d (e ∷ [])) (shown d rest))
 

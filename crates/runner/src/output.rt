@@ -1,26 +1,25 @@
 //! Writing a history, or the line of a refusal. Each line goes out with its line feed, by one `write_whole`.
-ghost use Rattle.std.specs.Prelude.{◌≡◌, ◌≤◌, [], ◌∷◌, drop, false, is_some, length, OnOk, OnErr};
+ghost use Rattle.std.specs.Prelude.{◌≡◌, ◌≤◌, [], ◌∷◌, drop, is_some, length, OnOk, OnErr};
 ghost use Rattle.std.specs.List.{flat_map};
 ghost use Rattle.edge_io.specs.Faults.{Rose};
 ghost use Rattle.edge_io.specs.Written.{Wrote, WrotePrefix};
 ghost use Rattle.entry_log.specs.EntryLine.{entry_line};
 ghost use Rattle.entry_log.specs.FinalLine.{final_line};
 ghost use Rattle.entry_log.specs.HistoryText.{history_text};
-ghost use Rattle.kcore.specs.KernelMode.{Suits};
 ghost use Rattle.machine.specs.FinalRows.{final_rows};
-ghost use Rattle.machine.specs.History.{after, IsLegal};
-ghost use Rattle.runner.specs.RunText.{shown};
+ghost use Rattle.machine.specs.History.{IsLegalIn};
+ghost use Rattle.machine_safe.specs.Safe.{IsSafeIn};
+ghost use Rattle.runner.specs.RunText.{is_split, shown, state_after};
 ghost use Rattle.script_read.specs.Refusal.{refusal_text};
 ghost use Rattle.script_types.specs.Source.{IsWellFormed};
 
 use crate::detail::Detail;
-use crate::whole::{history, next_row};
 use arrayvec::ArrayVec;
 use edge_io::{Failed, Sink, write_whole};
 use entry_log::{Entry, FinalRow, entry_text, final_text};
 use itoa::Buffer;
 use kcore::Kernel;
-use ref_words::PlainWords;
+use ref_words::RefWords;
 use script_read::Reason;
 
 /// The bytes of a line, its line feed among them.
@@ -118,23 +117,22 @@ fn write_entries<K: Sink>(
 }
 
 /// Writes the line of each object that is left, by way of one buffer.
-fn write_rows<K: Sink>(
+fn write_rows<K: Sink, W: RefWords + Drop>(
     sink: &mut K,
     line: &mut Line,
-    kernel: &Kernel<PlainWords>,
+    kernel: &Kernel<W>,
 ) -> Result<(), Failed>
     requires valid { IsWellFormed kernel.now.script }
-    requires alone { Suits false kernel.now.mode }
     ensures whole { OnOk result (Wrote (K.written sink.old) (K.written sink.new)
-        (flat_map final_line (final_rows (after kernel.now.script kernel.now.history)))) }
+        (flat_map final_line (final_rows (state_after kernel.now)))) }
     ensures front { OnErr result (WrotePrefix (K.written sink.old) (K.written sink.new)
-        (flat_map final_line (final_rows (after kernel.now.script kernel.now.history)))) }
+        (flat_map final_line (final_rows (state_after kernel.now)))) }
     ensures tells { is_some (K.written sink.new) ≡ is_some (K.written sink.old) }
     ensures fault { OnErr result (Rose (K.faults sink.old) (K.faults sink.new)) }
     ensures never_falls { K.faults sink.old ≤ K.faults sink.new }
 {
     let mut from = 0;
-    while let Some(row) = next_row(kernel, from) {
+    while let Some(row) = kernel.next_row(from) {
         put_row(line, &row);
         write_whole(sink, line.as_slice())?;
         from = row.object.0 + 1;
@@ -142,29 +140,49 @@ fn write_rows<K: Sink>(
     Ok(())
 }
 
-/// Writes the history of a kernel: the entries that the detail shows, and the objects that are left. One buffer
-/// holds each line in turn.
-pub fn write_history<K: Sink>(
+/// Writes the history of a kernel, which one caller made alone or callers who share it: the entries that the detail shows,
+/// and the objects that are left. One buffer holds each line in turn.
+fn write_history<K: Sink, W: RefWords + Drop>(
     sink: &mut K,
     detail: Detail,
-    kernel: &Kernel<PlainWords>,
+    kernel: &Kernel<W>,
 ) -> Result<(), Failed>
     requires valid { IsWellFormed kernel.now.script }
-    requires alone { Suits false kernel.now.mode }
     ensures whole { OnOk result (Wrote (K.written sink.old) (K.written sink.new)
-        (history_text (shown detail kernel.now.history) (final_rows (after kernel.now.script kernel.now.history)))) }
+        (history_text (shown detail kernel.now.history) (final_rows (state_after kernel.now)))) }
     ensures front { OnErr result (WrotePrefix (K.written sink.old) (K.written sink.new)
-        (history_text (shown detail kernel.now.history) (final_rows (after kernel.now.script kernel.now.history)))) }
-    ensures legal { IsLegal kernel.now.script kernel.now.history }
+        (history_text (shown detail kernel.now.history) (final_rows (state_after kernel.now)))) }
+    ensures legal { IsLegalIn (is_split kernel.now.mode) kernel.now.script kernel.now.history }
+    ensures safe { IsSafeIn (is_split kernel.now.mode) kernel.now.script kernel.now.history }
     ensures tells { is_some (K.written sink.new) ≡ is_some (K.written sink.old) }
     ensures fault { OnErr result (Rose (K.faults sink.old) (K.faults sink.new)) }
     ensures never_falls { K.faults sink.old ≤ K.faults sink.new }
 {
     let mut line = Line::new();
-    write_entries(sink, &mut line, detail, history(kernel))?;
+    write_entries(sink, &mut line, detail, kernel.history())?;
     write_whole(sink, b"objects\n")?;
     write_rows(sink, &mut line, kernel)?;
     write_whole(sink, b"end\n")
+}
+
+/// The same of a kernel that isn't needed any more.
+pub fn write_kernel<K: Sink, W: RefWords + Drop>(
+    sink: &mut K,
+    detail: Detail,
+    kernel: Kernel<W>,
+) -> Result<(), Failed>
+    requires valid { IsWellFormed kernel.script }
+    ensures whole { OnOk result (Wrote (K.written sink.old) (K.written sink.new)
+        (history_text (shown detail kernel.history) (final_rows (state_after kernel)))) }
+    ensures front { OnErr result (WrotePrefix (K.written sink.old) (K.written sink.new)
+        (history_text (shown detail kernel.history) (final_rows (state_after kernel)))) }
+    ensures legal { IsLegalIn (is_split kernel.mode) kernel.script kernel.history }
+    ensures safe { IsSafeIn (is_split kernel.mode) kernel.script kernel.history }
+    ensures tells { is_some (K.written sink.new) ≡ is_some (K.written sink.old) }
+    ensures fault { OnErr result (Rose (K.faults sink.old) (K.faults sink.new)) }
+    ensures never_falls { K.faults sink.old ≤ K.faults sink.new }
+{
+    write_history(sink, detail, &kernel)
 }
 
 /// Writes the one line of a refused script.

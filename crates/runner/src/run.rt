@@ -13,14 +13,13 @@ ghost use Rattle.script_read.specs.declared.reason.Reason.{Reason};
 ghost use Rattle.script_types.specs.Source.{IsWellFormed};
 ghost use Rattle.script_types.specs.declared.script.Script.{Script};
 
+use crate::accepted::read_accepted;
 use crate::detail::Detail;
 use crate::history::make_history;
-use crate::input::read_input;
-use crate::output::{write_history, write_refusal};
+use crate::output::write_kernel;
 use edge_io::{Sink, Source};
-use script_grammar::is_well_formed;
-use script_read::{ReadScript, RunFault, read_script};
-use script_types::{Limits, Script};
+use script_read::RunFault;
+use script_types::Script;
 use std::alloc::Global;
 
 /// Runs a script and writes its history, or the part that the detail shows. Nothing is written before the whole history is made.
@@ -44,7 +43,7 @@ fn run_script<K: Sink>(
     let Ok(kernel) = make_history(alloc, script) else {
         return Err(RunFault::NoMemory);
     };
-    match write_history(sink, detail, &kernel) {
+    match write_kernel(sink, detail, kernel) {
         Ok(()) => Ok(()),
         Err(_) => Err(RunFault::WriteFault),
     }
@@ -88,16 +87,8 @@ pub fn run_shown<S: Source, K: Sink>(
         → Stayed (S.faults source.old) (S.faults source.new)
         → (result ≡ Err RunFault.TooLarge) ⊎ (result ≡ Err RunFault.NoMemory) }
 {
-    let input = read_input(alloc, source, Limits::INPUT)?;
-    match read_script(alloc, input.as_slice()) {
-        ReadScript::Script(script) => {
-            is_well_formed(&script);
-            run_script(alloc, detail, script, sink)
-        }
-        ReadScript::Refused { line, reason } => match write_refusal(sink, line, reason) {
-            Ok(()) => Err(RunFault::Refused { line, reason }),
-            Err(_) => Err(RunFault::WriteFault),
-        },
-        ReadScript::NoMemory => Err(RunFault::NoMemory),
+    match read_accepted(alloc, source, sink) {
+        Ok(script) => run_script(alloc, detail, script, sink),
+        Err(fault) => Err(fault),
     }
 }

@@ -10,7 +10,9 @@ pub boot-requires-clause-room : goal.boot-requires-clause-room
 boot-requires-clause-room c = rw (c.len-room.ensures, c.in_ok-slots.ensures) (omega (arith, valid_slots_few c.args.script c.requires))
 
 pub slot-requires-clause-declared : goal.slot-requires-clause-declared
-slot-requires-clause-declared c = rw (c.loop-slot.invariant.script, c.as_slice-slot-items.ensures, c.in_ok-slots.ensures) (valid_slot_is_declared c.args.script c.loop-slot.slot-index c.requires)
+slot-requires-clause-declared c =
+    rw (c.loop-slot.invariant.script, c.as_slice-slot-items.ensures, c.in_ok-slots.ensures)
+    (valid_slot_is_declared c.args.script c.loop-slot.slot-index c.requires)
 
 pub loop-slot-init : goal.loop-slot-init
 loop-slot-init c = record {

@@ -12,5 +12,7 @@ invariant-loop-slot l = record {
   alone : Suits false l.kernel.mode;
   room : l.kernel.room ≡ length l.fn.script.slots;
   count : length l.kernel.history ≡ l.slot-index;
-  rest : l.kernel.history ++ run_from l.fn.script (after l.fn.script l.kernel.history) (arrived l.fn.script l.kernel.history) (length l.kernel.history + 1) (drop l.slot-index l.fn.script.slots) ≡ run l.fn.script;
+  rest : l.kernel.history ++ run_from l.fn.script (after l.fn.script l.kernel.history)
+      (arrived l.fn.script l.kernel.history) (length l.kernel.history + 1) (drop l.slot-index l.fn.script.slots)
+      ≡ run l.fn.script;
 }

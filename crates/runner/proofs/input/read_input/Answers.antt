@@ -8,7 +8,10 @@ use Rattle.runner.proofs.input.read_input.Goals as goal
 pub returns-then-count-limit-clause-large : goal.returns-then-count-limit-clause-large
 returns-then-count-limit-clause-large g c = λ same. record {
   bytes = c.loop-count.input.items ++ take c.in-Ok.count c.read.new.buf;
-  many = more_many c.args.limit c.loop-count.input.items c.in-Ok.count c.read.new.buf (omega (arith, c.in-Ok.ensures.count, length-take {A = ℕ})) (omega (arith, c.in-Ok.ensures.count, length-take {A = ℕ}));
+  many =
+      more_many c.args.limit c.loop-count.input.items c.in-Ok.count c.read.new.buf
+      (omega (arith, c.in-Ok.ensures.count, length-take {A = ℕ}))
+      (omega (arith, c.in-Ok.ensures.count, length-take {A = ℕ}));
   front = read_more _ _ _ c.loop-count.input.items _ c.loop-count.invariant.bytes c.in-Ok.ensures.moved;
 }
 

@@ -16,7 +16,9 @@ returns-in_err-write_entry-clause-front g c =
     let all = c.args.entries.now in
     let detail = c.args.detail in
     let left = drop_more all i c.entry-item.result c.loop-entry-test.true ∙ ap (λ (e : Entry). e ∷ drop (i + 1) all) (sym c.entry-item.is) in
-    rw p.1 (all_but_prefix _ _ _ _ _ (flat_map entry_line (shown detail (drop (i + 1) all))) _ c.loop-entry.invariant.all (next_shown detail (drop i all) (drop (i + 1) all) c.entry-item.result left) c.in_err-write_entry.ensures.front)
+    rw p.1 (all_but_prefix _ _ _ _ _ (flat_map entry_line (shown detail (drop (i + 1) all))) _
+    c.loop-entry.invariant.all (next_shown detail (drop i all) (drop (i + 1) all) c.entry-item.result left)
+    c.in_err-write_entry.ensures.front)
 
 pub loop-entry-preserved : goal.loop-entry-preserved
 loop-entry-preserved g c =
@@ -24,7 +26,10 @@ loop-entry-preserved g c =
     let all = c.args.entries.now in
     let left = drop_more all i c.entry-item.result c.loop-entry-test.true ∙ ap (λ (e : Entry). e ∷ drop (i + 1) all) (sym c.entry-item.is) in
     record {
-      all = all_but_next _ _ _ _ _ _ _ c.loop-entry.invariant.all (next_shown c.args.detail (drop i all) (drop (i + 1) all) c.entry-item.result left) c.in_ok-write_entry.ensures.whole;
+      all =
+          all_but_next _ _ _ _ _ _ _ c.loop-entry.invariant.all
+          (next_shown c.args.detail (drop i all) (drop (i + 1) all) c.entry-item.result left)
+          c.in_ok-write_entry.ensures.whole;
       tells = search rules;
       never_falls = search rules;
     }

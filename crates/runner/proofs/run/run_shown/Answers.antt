@@ -1,52 +1,68 @@
-use Rattle.std.proofs.Common.{◌≤◌, ℕ, List, length, refl, sym, subst, arith, inl, inr}
-use Rattle.script_read.specs.FirstBad.{IsFirstBad}
-use Rattle.script_read.specs.Refusal.{refusal_text}
-use Rattle.script_grammar.specs.Accepted.{IsAccepted}
-use Rattle.runner.specs.Inputs.{IsInput, IsBadInput}
-use Rattle.runner.specs.Outputs.{WroteRefusalOf}
-use Rattle.runner.proofs.Judged.{of_told, of_input, same_refusal}
+use Rattle.std.proofs.Common.{ℕ, ap, inl, inr, subst}
+use Rattle.runner.specs.Complete.{Stayed}
+use Rattle.runner.specs.RunText.{shown_text}
+use Rattle.script_read.specs.declared.fault.RunFault.TheVariants as fault
+use Rattle.runner.proofs.Ends.{done-run, ends-well, front-refused, front-run, never-large, never-read, never-refused, on-ok, same-fault, stayed-first}
 use Rattle.runner.proofs.run.run_shown.Goals as goal
 
-pub returns-in-Script-clause-bad : goal.returns-in-Script-clause-bad
-returns-in-Script-clause-bad g c = λ line why holds reads writes.
-    let input = of_input (λ bytes. IsBadInput bytes line why) _ c.in_ok-input.input.items c.in_ok-input.ensures.whole holds in
-    absurd (c.in-Script.ensures.first_bad line why (subst (λ (b : List ℕ). IsFirstBad b line why) (sym c.as_slice.ensures.value) input.bad))
-
-pub returns-in-Ok-clause-refused : goal.returns-in-Ok-clause-refused
-returns-in-Ok-clause-refused g c = λ line why same.
-    let within = c.in_ok-input.ensures.within in
-    let few : length c.in_ok-input.input.items ≤ 1048576 = omega arith in
-    let bad = subst (λ (b : List ℕ). IsFirstBad b c.in-Refused.line c.in-Refused.reason) c.as_slice.ensures.value c.in-Refused.ensures.answer in
-    same_refusal (λ l r. WroteRefusalOf l r (g.S.Source.left c.args.source.now) (g.K.Sink.written c.args.sink.now) (g.K.Sink.written c.write_refusal.new.sink)) c.in-Refused.line line c.in-Refused.reason why same (record {
-      bad = of_told (λ bytes. IsBadInput bytes c.in-Refused.line c.in-Refused.reason) _ c.in_ok-input.input.items c.in_ok-input.ensures.whole (record { few = few; bad = bad });
-      wrote = c.in-Ok.ensures.whole;
+-- the input was accepted: the sink is as it was, and the script's text is written
+pub returns-in-Ok : goal.returns-in-Ok
+returns-in-Ok g c =
+    let read = c.in-Ok.ensures in
+    let said = c.run_script.ensures in
+    let r = c.run_script.result in
+    let script = c.in-Ok.script in
+    let source = g.S.Source.left c.args.source.now in
+    let before = g.K.Sink.faults c.read_accepted.new.sink in
+    let after = g.K.Sink.faults c.run_script.new.sink in
+    rw (← read.untouched) (record {
+      done = done-run r (shown_text c.args.detail) source _ _ script read.input said.whole said.legal said.safe;
+      at_end = on-ok r read.at_end;
+      refused = λ line why same. absurd (never-refused r said.faults line why same);
+      refused_at_end = λ line why same. absurd (never-refused r said.faults line why same);
+      large = λ same. absurd (never-large r said.faults same);
+      few = λ other. read.few (λ same. cc);
+      large_silent = λ same. absurd (never-large r said.faults same);
+      read_fault = λ same. absurd (never-read r said.faults same);
+      write_fault = said.fault;
+      front = λ same. front-run (shown_text c.args.detail) source _ _ script read.input (said.front same);
+      read_silent = λ same. absurd (never-read r said.faults same);
+      memory_silent = said.silent;
+      accepted = λ other holds reads writes. ends-well r before after said.faults said.fault writes;
+      bad = λ line why holds reads writes.
+          let first : Stayed before before = stayed-first before after said.never_falls writes in
+          elim (read.bad line why holds reads (subst (λ (n : ℕ). Stayed n before) (ap g.K.Sink.faults read.untouched) first)) [ inl e ↦ cc | inr e ↦ cc ];
+      too_large = λ holds reads. elim (read.too_large holds reads) [ inl e ↦ cc | inr e ↦ cc ];
     })
 
-pub returns-in-Ok-clause-accepted : goal.returns-in-Ok-clause-accepted
-returns-in-Ok-clause-accepted g c = λ script holds reads writes.
-    let input = of_input (λ bytes. IsInput bytes script) _ c.in_ok-input.input.items c.in_ok-input.ensures.whole holds in
-    absurd (c.in-Refused.ensures.only script (subst (λ (b : List ℕ). IsAccepted b script) (sym c.as_slice.ensures.value) input.accepted))
-
-pub returns-in-Ok-clause-bad : goal.returns-in-Ok-clause-bad
-returns-in-Ok-clause-bad g c = λ line why holds reads writes.
-    let input = of_input (λ bytes. IsBadInput bytes line why) _ c.in_ok-input.input.items c.in_ok-input.ensures.whole holds in
-    let same = c.in-Refused.ensures.first_bad line why (subst (λ (b : List ℕ). IsFirstBad b line why) (sym c.as_slice.ensures.value) input.bad) in
-    let at = same.0 in
-    let reason = same.1 in
-    inl (cc)
-
-pub returns-in-Refused-clause-front : goal.returns-in-Refused-clause-front
-returns-in-Refused-clause-front g c = λ same.
-    let within = c.in_ok-input.ensures.within in
-    let few : length c.in_ok-input.input.items ≤ 1048576 = omega arith in
-    let bad = subst (λ (b : List ℕ). IsFirstBad b c.in-Refused.line c.in-Refused.reason) c.as_slice.ensures.value c.in-Refused.ensures.answer in
+-- it wasn't
+pub returns-in-Err : goal.returns-in-Err
+returns-in-Err g c =
+    let read = c.in-Err.ensures in
+    let f = c.in-Err.fault in
     record {
-      text = refusal_text c.in-Refused.line c.in-Refused.reason;
-      called_for = inr (record {
-        line = c.in-Refused.line;
-        why = c.in-Refused.reason;
-        bad = of_told (λ bytes. IsBadInput bytes c.in-Refused.line c.in-Refused.reason) _ c.in_ok-input.input.items c.in_ok-input.ensures.whole (record { few = few; bad = bad });
-        same = refl;
-      });
-      wrote = c.in-Err.ensures.front;
+      done = tt;
+      at_end = tt;
+      refused = λ line why same. read.refused line why (same-fault f (fault.Refused line why) same);
+      refused_at_end = λ line why same. read.refused_at_end line why (same-fault f (fault.Refused line why) same);
+      large = λ same. read.large (same-fault f fault.TooLarge same);
+      few = λ other. read.few (λ same. other (same-fault f fault.TooLarge same));
+      large_silent = λ same. read.large_silent (same-fault f fault.TooLarge same);
+      read_fault = λ same. read.read_fault (same-fault f fault.ReadFault same);
+      write_fault = λ same. read.write_fault (same-fault f fault.WriteFault same);
+      front = λ same. front-refused (shown_text c.args.detail) _ _ _ (read.front (same-fault f fault.WriteFault same));
+      read_silent = λ same. read.read_silent (same-fault f fault.ReadFault same);
+      memory_silent = λ same. read.memory_silent (same-fault f fault.NoMemory same);
+      accepted = λ script holds reads writes.
+          elim (read.accepted script holds reads writes) [ inl e ↦ inl e | inr e ↦ inr (same-fault f fault.NoMemory e) ];
+      bad = λ line why holds reads writes.
+          elim (read.bad line why holds reads writes) [
+            | inl e ↦ inl (same-fault f (fault.Refused line why) e)
+            | inr e ↦ inr (same-fault f fault.NoMemory e)
+          ];
+      too_large = λ holds reads.
+          elim (read.too_large holds reads) [
+            | inl e ↦ inl (same-fault f fault.TooLarge e)
+            | inr e ↦ inr (same-fault f fault.NoMemory e)
+          ];
     }

@@ -10,7 +10,8 @@ overflow_add-objects c =
 
 pub overflow_add-from : goal.overflow_add-from
 overflow_add-from c =
-    let small : c.in-Some.row.object.0 < 4096 = row_number false c.args.kernel.now.script c.args.kernel.now.history c.loop-row.from c.in-Some.row _ c.requires.valid c.in-Some.ensures in
+    let small : c.in-Some.row.object.0 < 4096 = row_number false c.args.kernel.now.script c.args.kernel.now.history
+    c.loop-row.from c.in-Some.row _ c.requires.valid c.in-Some.ensures in
     omega arith
 
 pub loop-row-preserved : goal.loop-row-preserved
