@@ -33,7 +33,8 @@ illegal_is (Err fault.WriteFault) holds same = cc
 illegal_is (Err fault.NoMemory) holds same = cc
 illegal_is (Err fault.TooLarge) holds same = cc
 
-pub refused_is : {P : Type 0} (r : Result Checked RunFault) → ((line : ℕ) → (why : Reason) → r ≡ Err (fault.Refused line why) → P) → status_of_check r ≡ status.Refused → P
+pub refused_is : {P : Type 0} (r : Result Checked RunFault)
+    → ((line : ℕ) → (why : Reason) → r ≡ Err (fault.Refused line why) → P) → status_of_check r ≡ status.Refused → P
 refused_is (Ok (checked.Legal n)) holds same = cc
 refused_is (Ok (checked.Illegal l)) holds same = cc
 refused_is (Ok checked.NoMemory) holds same = cc
@@ -99,12 +100,27 @@ at_end_of : {P : Type 0} (r : Result Checked RunFault) (c : Checked) → IfOk r 
 at_end_of (Ok x) c holds same = holds
 at_end_of (Err f) c holds same = cc
 
-or_of : (r one other : Result Checked RunFault) → (r ≡ one) ⊎ (r ≡ other) → (status_of_check r ≡ status_of_check one) ⊎ (status_of_check r ≡ status_of_check other)
+or_of : (r one other : Result Checked RunFault) → (r ≡ one) ⊎ (r ≡ other)
+    → (status_of_check r ≡ status_of_check one) ⊎ (status_of_check r ≡ status_of_check other)
 or_of r one other (inl same) = inl (ap status_of_check same)
 or_of r one other (inr same) = inr (ap status_of_check same)
 
 -- what a check did
-pub checked_history : (input left old new : Option (List ℕ)) (reads writes : Type 0) (r : Result Checked RunFault) → ((entries : ℕ) → r ≡ Ok (checked.Legal entries) → WroteVerdict (checked.Legal entries) input old new) → ((line : ℕ) → r ≡ Ok (checked.Illegal line) → WroteVerdict (checked.Illegal line) input old new) → IfOk r (λ done. IsAtEnd left) → ((line : ℕ) → (why : Reason) → r ≡ Err (fault.Refused line why) → WroteCheckRefusal line why input old new) → ((line : ℕ) → (why : Reason) → r ≡ Err (fault.Refused line why) → IsAtEnd left) → (r ≡ Err fault.WriteFault → WroteVerdictFront input old new) → ((script : Script) → (entries : ℕ) → IsSomeAnd input (λ bytes. IsCheckedAs bytes script (checked.Legal entries)) → reads → writes → (r ≡ Ok (checked.Legal entries)) ⊎ (r ≡ Err fault.NoMemory)) → ((script : Script) → (line : ℕ) → IsSomeAnd input (λ bytes. IsCheckedAs bytes script (checked.Illegal line)) → reads → writes → (r ≡ Ok (checked.Illegal line)) ⊎ (r ≡ Err fault.NoMemory)) → ((line : ℕ) → (why : Reason) → IsSomeAnd input (λ bytes. IsBadCheckInput bytes line why) → reads → writes → (r ≡ Err (fault.Refused line why)) ⊎ (r ≡ Err fault.NoMemory)) → (IsSomeAnd input IsLargeCheckInput → reads → (r ≡ Err fault.TooLarge) ⊎ (r ≡ Err fault.NoMemory)) → CheckedHistory input left old new reads writes (status_of_check r)
+pub checked_history : (input left old new : Option (List ℕ)) (reads writes : Type 0) (r : Result Checked RunFault)
+    → ((entries : ℕ) → r ≡ Ok (checked.Legal entries) → WroteVerdict (checked.Legal entries) input old new)
+    → ((line : ℕ) → r ≡ Ok (checked.Illegal line) → WroteVerdict (checked.Illegal line) input old new)
+    → IfOk r (λ done. IsAtEnd left)
+    → ((line : ℕ) → (why : Reason) → r ≡ Err (fault.Refused line why) → WroteCheckRefusal line why input old new)
+    → ((line : ℕ) → (why : Reason) → r ≡ Err (fault.Refused line why) → IsAtEnd left)
+    → (r ≡ Err fault.WriteFault → WroteVerdictFront input old new)
+    → ((script : Script) → (entries : ℕ) → IsSomeAnd input (λ bytes. IsCheckedAs bytes script (checked.Legal entries))
+    → reads → writes → (r ≡ Ok (checked.Legal entries)) ⊎ (r ≡ Err fault.NoMemory))
+    → ((script : Script) → (line : ℕ) → IsSomeAnd input (λ bytes. IsCheckedAs bytes script (checked.Illegal line))
+    → reads → writes → (r ≡ Ok (checked.Illegal line)) ⊎ (r ≡ Err fault.NoMemory))
+    → ((line : ℕ) → (why : Reason) → IsSomeAnd input (λ bytes. IsBadCheckInput bytes line why) → reads → writes
+    → (r ≡ Err (fault.Refused line why)) ⊎ (r ≡ Err fault.NoMemory))
+    → (IsSomeAnd input IsLargeCheckInput → reads → (r ≡ Err fault.TooLarge) ⊎ (r ≡ Err fault.NoMemory))
+    → CheckedHistory input left old new reads writes (status_of_check r)
 checked_history input left old new reads writes r legal illegal at_end refused refused_at_end front decided_legal decided_illegal bad too_large = record {
   done = legal_is r (λ entries same. record { entries = entries; verdict = legal entries same });
   illegal = illegal_is r (λ line same. record { line = line; verdict = illegal line same });
@@ -113,8 +129,12 @@ checked_history input left old new reads writes r legal illegal at_end refused r
   illegal_at_end = illegal_is r (λ line same. at_end_of r (checked.Illegal line) at_end same);
   refused_at_end = refused_is r refused_at_end;
   front = λ same. front (write_fault_is r same);
-  legal = λ script entries holds unfailed unbroken. or_of r (Ok (checked.Legal entries)) (Err fault.NoMemory) (decided_legal script entries holds unfailed unbroken);
-  not_legal = λ script line holds unfailed unbroken. or_of r (Ok (checked.Illegal line)) (Err fault.NoMemory) (decided_illegal script line holds unfailed unbroken);
+  legal =
+      λ script entries holds unfailed unbroken. or_of r (Ok (checked.Legal entries)) (Err fault.NoMemory)
+      (decided_legal script entries holds unfailed unbroken);
+  not_legal =
+      λ script line holds unfailed unbroken. or_of r (Ok (checked.Illegal line)) (Err fault.NoMemory)
+      (decided_illegal script line holds unfailed unbroken);
   bad = λ line why holds unfailed unbroken. or_of r (Err (fault.Refused line why)) (Err fault.NoMemory) (bad line why holds unfailed unbroken);
   too_large = λ holds unfailed. or_of r (Err fault.TooLarge) (Err fault.NoMemory) (too_large holds unfailed);
 }

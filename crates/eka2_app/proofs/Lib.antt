@@ -1,4 +1,5 @@
 mod CallersKeep
+mod ThreePasses
 pub mod Ended
 pub mod EndedCheck
 pub mod OneReading

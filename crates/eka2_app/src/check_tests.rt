@@ -5,10 +5,12 @@ use crate::tests::{HISTORY, SCRIPT, UNKNOWN_WORD_SCRIPT, expect_run, sink_of, wo
 use edge_io::MemSource;
 use std::alloc::{AllocError, Global};
 use std::process::Abort;
+use std::sync::Wait;
 use std::test::Fail;
+use std::thread::Threads;
 
 /// The history of the script of two handles, of which the third line tells another place of the table.
-const CHANGED_HISTORY: &str = "\
+pub const CHANGED_HISTORY: &str = "\
 1 t3 create.do +p2.0:4 = 65536
 2 t3 dup.look +tmp3:4
 3 t3 dup.do +p2.2:4 = 65538
@@ -61,7 +63,7 @@ fn source_of(alloc: Global, script: &str, history: &str) -> Result<MemSource, Al
 }
 
 /// Checks a history of a script, and compares the status and what was written.
-fn expect_check<R: Abort>(
+fn expect_check<R: Abort + Threads + Wait + Sync>(
     rt: &R,
     alloc: Global,
     script: &str,

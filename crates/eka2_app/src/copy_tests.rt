@@ -1,5 +1,6 @@
 //! Runs of the whole command in which servers copy bytes of their clients, and a longer one.
 use crate::death_tests::well;
+use crate::gate::OpenGate;
 use crate::status::Status;
 use crate::tests::{expect_case, words_of};
 use crate::top::eka2_main;
@@ -173,11 +174,11 @@ end
 ";
 
 /// Three clients of one server, each with a call, a send and a close; all threads end.
-const LOAD_SCRIPT: &str =
+pub const LOAD_SCRIPT: &str =
     "eka2 1\nidfc w device d0 0\nirq 0 idfc w\nprocess fs\nthread sv 30\nserver files r0\nreceive r0 m0\ncomplete m0 0\nreceive r0 m0\ncomplete m0 0\nreceive r0 m0\ncomplete m0 0\nreceive r0 m0\ncomplete m0 0\nreceive r0 m0\ncomplete m0 0\nreceive r0 m0\ncomplete m0 0\nreceive r0 m0\ncomplete m0 0\nreceive r0 m0\ncomplete m0 0\nreceive r0 m0\ncomplete m0 0\nreceive r0 m0\ncomplete m0 0\nreceive r0 m0\ncomplete m0 0\nreceive r0 m0\ncomplete m0 0\nprocess pa\nthread a 12\nconnect files 2 r0\nfill 0 16 65\ncall r0 1 d:0:16:16 0 0 0\nsend r0 2 s0 0 0 0 0\nwaitfor s0\nclose r0\nrequest d0 s1\nwaitfor s1\nprocess pb\nthread b 11\nconnect files 2 r0\nfill 0 16 65\ncall r0 1 d:0:16:16 0 0 0\nsend r0 2 s0 0 0 0 0\nwaitfor s0\nclose r0\nprocess pc\nthread c 10\nconnect files 2 r0\nfill 0 16 65\ncall r0 1 d:0:16:16 0 0 0\nsend r0 2 s0 0 0 0 0\nwaitfor s0\nclose r0\nschedule\ngo 2000\nirq 0\ngo 1999\nend\n";
 
 /// What is left at its end.
-const LOAD_LEFT: &[u8] = b"objects\n0 process kernel 1\n1 thread supervisor 1 live\nend\n";
+pub const LOAD_LEFT: &[u8] = b"objects\n0 process kernel 1\n1 thread supervisor 1 live\nend\n";
 
 #[test]
 fn a_client_dies_between_pieces(rt: HostRuntime) -> Result<(), Fail> {
@@ -200,7 +201,14 @@ fn three_clients_come_and_go(rt: HostRuntime) -> Result<(), Fail> {
     let bytes = Vec::from_slice(rt.alloc(), LOAD_SCRIPT.as_bytes())?;
     let mut source = MemSource::new(bytes, 100, Vec::new(rt.alloc()));
     let mut sink = MemSink::new(rt.alloc(), 100_000, 100_000, Vec::new(rt.alloc()))?;
-    let found = eka2_main(rt.alloc(), words.as_slice(), &mut source, &mut sink);
+    let found = eka2_main(
+        &rt,
+        rt.alloc(),
+        words.as_slice(),
+        &mut source,
+        &mut sink,
+        &OpenGate,
+    );
     assert_eq!(rt; found, Status::Done);
     assert!(rt; sink.bytes().ends_with(LOAD_LEFT));
     Ok(())

@@ -1,13 +1,16 @@
 //! Each command over sources that give few bytes a read and sinks that take few a write, and over the failure of each
 //! read and of each write.
 use crate::command_tests::{BRIEFLY, LOAD, MAKE};
+use crate::gate::OpenGate;
 use crate::status::Status;
 use crate::tests::{Case, UNKNOWN_WORD_SCRIPT, WELL, words_of};
 use crate::top::eka2_main;
 use edge_io::{MemSink, MemSource};
 use std::alloc::Global;
 use std::process::Abort;
+use std::sync::Wait;
 use std::test::Fail;
+use std::thread::Threads;
 
 /// The most bytes that a read gives and that a write takes, and the numbers of the read and the write that fail, from
 /// 1: none is 0.
@@ -39,7 +42,7 @@ const REFUSED: Case<'static> = Case {
 const EACH_COMMAND: [Case<'static>; 5] = [WELL, BRIEFLY, MAKE, LOAD, REFUSED];
 
 /// Runs a case's words over its script with such ends, and compares the status and what was written.
-fn expect_at<R: Abort>(
+fn expect_at<R: Abort + Threads + Wait + Sync>(
     rt: &R,
     alloc: Global,
     case: &Case<'_>,
@@ -53,7 +56,14 @@ fn expect_at<R: Abort>(
     let failing_writes = Vec::from_slice(alloc, &[ends.failing_write])?;
     let mut source = MemSource::new(bytes, ends.read.max(1), failing_reads);
     let mut sink = MemSink::new(alloc, 2000, ends.write.max(1), failing_writes)?;
-    let found = eka2_main(alloc, words.as_slice(), &mut source, &mut sink);
+    let found = eka2_main(
+        rt,
+        alloc,
+        words.as_slice(),
+        &mut source,
+        &mut sink,
+        &OpenGate,
+    );
     assert_eq!(rt; found, status);
     assert_eq!(rt; sink.bytes(), written);
     Ok(())
@@ -91,69 +101,75 @@ fn reads_of(text: &str) -> u32 {
 }
 
 /// After the failure of any read nothing was written. One more isn't made.
-#[test]
-fn each_read_fails(rt: HostRuntime) -> Result<(), Fail> {
-    for case in [WELL, BRIEFLY, REFUSED] {
-        let reads = reads_of(case.script);
-        for failing_read in 1..reads.saturating_add(2) {
-            let ends = Ends {
-                failing_read,
-                ..STEADY
-            };
-            let (status, written) = if failing_read <= reads {
-                (Status::ReadFault, b"".as_slice())
-            } else {
-                (case.status, case.written.as_bytes())
-            };
-            expect_at(&rt, rt.alloc(), &case, ends, status, written)?;
-        }
+pub fn expect_failing_reads<R: Abort + Threads + Wait + Sync>(
+    rt: &R,
+    alloc: Global,
+    case: &Case<'_>,
+) -> Result<(), Fail> {
+    let reads = reads_of(case.script);
+    for failing_read in 1..reads.saturating_add(2) {
+        let ends = Ends {
+            failing_read,
+            ..STEADY
+        };
+        let (status, written) = if failing_read <= reads {
+            (Status::ReadFault, b"".as_slice())
+        } else {
+            (case.status, case.written.as_bytes())
+        };
+        expect_at(rt, alloc, case, ends, status, written)?;
     }
     Ok(())
 }
 
 /// After the failure of any write the lines before it were written. One more isn't made.
-#[test]
-fn each_write_fails(rt: HostRuntime) -> Result<(), Fail> {
-    for case in EACH_COMMAND {
-        let lines = lines_of(case.written);
-        for failing_write in 1..lines.saturating_add(2) {
-            let ends = Ends {
-                failing_write,
-                ..STEADY
-            };
-            let status = if failing_write <= lines {
-                Status::WriteFault
-            } else {
-                case.status
-            };
-            let written = first_lines(case.written, failing_write.saturating_sub(1));
-            expect_at(&rt, rt.alloc(), &case, ends, status, written)?;
-        }
+pub fn expect_failing_writes<R: Abort + Threads + Wait + Sync>(
+    rt: &R,
+    alloc: Global,
+    case: &Case<'_>,
+) -> Result<(), Fail> {
+    let lines = lines_of(case.written);
+    for failing_write in 1..lines.saturating_add(2) {
+        let ends = Ends {
+            failing_write,
+            ..STEADY
+        };
+        let status = if failing_write <= lines {
+            Status::WriteFault
+        } else {
+            case.status
+        };
+        let written = first_lines(case.written, failing_write.saturating_sub(1));
+        expect_at(rt, alloc, case, ends, status, written)?;
     }
     Ok(())
 }
 
 /// How many bytes a call moves makes no difference.
-#[test]
-fn reads_and_writes_are_short(rt: HostRuntime) -> Result<(), Fail> {
-    for case in EACH_COMMAND {
-        for step in [1, 2, 3, 7, 4096] {
-            let ends = Ends {
-                read: step,
-                write: step,
-                ..STEADY
-            };
-            let written = case.written.as_bytes();
-            expect_at(&rt, rt.alloc(), &case, ends, case.status, written)?;
-        }
+pub fn expect_any_step<R: Abort + Threads + Wait + Sync>(
+    rt: &R,
+    alloc: Global,
+    case: &Case<'_>,
+) -> Result<(), Fail> {
+    for step in [1, 2, 3, 7, 4096] {
+        let ends = Ends {
+            read: step,
+            write: step,
+            ..STEADY
+        };
+        let written = case.written.as_bytes();
+        expect_at(rt, alloc, case, ends, case.status, written)?;
     }
     Ok(())
 }
 
 /// Where a sink takes one byte a call, the failure of a call leaves exactly the bytes before it.
-#[test]
-fn each_byte_fails(rt: HostRuntime) -> Result<(), Fail> {
-    let written = WELL.written.as_bytes();
+pub fn expect_failing_bytes<R: Abort + Threads + Wait + Sync>(
+    rt: &R,
+    alloc: Global,
+    case: &Case<'_>,
+) -> Result<(), Fail> {
+    let written = case.written.as_bytes();
     for count in 0..written.len().min(20) {
         let ends = Ends {
             write: 1,
@@ -161,7 +177,36 @@ fn each_byte_fails(rt: HostRuntime) -> Result<(), Fail> {
             ..STEADY
         };
         let status = Status::WriteFault;
-        expect_at(&rt, rt.alloc(), &WELL, ends, status, &written[..count])?;
+        expect_at(rt, alloc, case, ends, status, &written[..count])?;
     }
     Ok(())
+}
+
+#[test]
+fn each_read_fails(rt: HostRuntime) -> Result<(), Fail> {
+    for case in [WELL, BRIEFLY, REFUSED] {
+        expect_failing_reads(&rt, rt.alloc(), &case)?;
+    }
+    Ok(())
+}
+
+#[test]
+fn each_write_fails(rt: HostRuntime) -> Result<(), Fail> {
+    for case in EACH_COMMAND {
+        expect_failing_writes(&rt, rt.alloc(), &case)?;
+    }
+    Ok(())
+}
+
+#[test]
+fn reads_and_writes_are_short(rt: HostRuntime) -> Result<(), Fail> {
+    for case in EACH_COMMAND {
+        expect_any_step(&rt, rt.alloc(), &case)?;
+    }
+    Ok(())
+}
+
+#[test]
+fn each_byte_fails(rt: HostRuntime) -> Result<(), Fail> {
+    expect_failing_bytes(&rt, rt.alloc(), &WELL)
 }

@@ -1,9 +1,11 @@
-//! The command `eka2`: runs scripts on the kernel model and prints their histories and the objects that are left, checks
-//! histories, and makes scripts.
+//! The command `eka2`: runs scripts on the kernel model, by one caller or by workers that share it, and prints their
+//! histories and the objects that are left, checks histories, and makes scripts.
 #![tactic(auto)]
 
 #[cfg(test)]
 mod both_ways_tests;
+#[cfg(test)]
+mod caller_tests;
 #[cfg(test)]
 mod callers;
 #[cfg(test)]
@@ -19,6 +21,11 @@ mod death_tests;
 #[cfg(test)]
 mod fault_tests;
 #[cfg(test)]
+mod further_fault_tests;
+mod gate;
+#[cfg(test)]
+mod judged_tests;
+#[cfg(test)]
 mod judging;
 #[cfg(test)]
 mod late_tests;
@@ -30,6 +37,8 @@ mod shared_runs;
 mod shared_tests;
 #[cfg(test)]
 mod shared_texts;
+#[cfg(test)]
+mod sharing_tests;
 mod status;
 #[cfg(test)]
 mod storm_tables;
@@ -37,10 +46,13 @@ mod storm_tables;
 mod storm_tests;
 #[cfg(test)]
 mod tests;
+#[cfg(test)]
+mod thread_tests;
 mod top;
 mod words;
 
 use edge_io::{StdSink, StdSource};
+use gate::OpenGate;
 use std::process::ExitCode;
 
 /// Runs the command's words over standard input and output. A status other than Done is told by one
@@ -49,7 +61,14 @@ fn main(rt: HostRuntime) -> ExitCode {
     let mut source = StdSource::new(rt.stdin());
     let mut sink = StdSink::new(rt.stdout());
     let status = match words::given_words(&rt, rt.alloc()) {
-        Ok(words) => top::eka2_main(rt.alloc(), words.as_slice(), &mut source, &mut sink),
+        Ok(words) => top::eka2_main(
+            &rt,
+            rt.alloc(),
+            words.as_slice(),
+            &mut source,
+            &mut sink,
+            &OpenGate,
+        ),
         Err(status) => status,
     };
     if let Some(message) = status.message() {

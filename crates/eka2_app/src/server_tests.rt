@@ -60,7 +60,7 @@ end
 ";
 
 /// Two sessions that use a pool of one slot.
-const POOL_SCRIPT: &str =
+pub const POOL_SCRIPT: &str =
     "eka2 1\npool 1\nidfc w device d0 0\nirq 0 idfc w\nprocess ps\nthread sv 20\nserver files r0\nreceive r0 m0\ncomplete m0 0\nreceive r0 m1\ncomplete m1 0\nreceive r0 m2\nrequest d0 s0\nwaitany\nprocess pc\nthread c 10\nconnect files pool r0\nconnect files pool r1\nsend r0 1 s0 0 0 0 0\nsend r1 1 s1 0 0 0 0\nschedule\ngo 38\nend\n";
 
 /// What `brief` shows of it.

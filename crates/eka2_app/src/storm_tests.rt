@@ -2,6 +2,7 @@
 use crate::compared::{kernel_after, line_of_entry, line_of_row, plain_after};
 use crate::copy_tests::KILLED_HISTORY;
 use crate::death_tests::well;
+use crate::gate::OpenGate;
 use crate::status::Status;
 use crate::storm_tables::{
     ENDING, ENDING_SUMS, KILLED_CLIENT, KILLED_CLIENT_SUMS, KILLED_SERVER, KILLED_SERVER_SUMS,
@@ -14,7 +15,9 @@ use entry_log::Entry;
 use plain_machine::Plain;
 use std::alloc::{AllocError, Global};
 use std::process::Abort;
+use std::sync::Wait;
 use std::test::Fail;
+use std::thread::Threads;
 
 /// The numbers of objects that rows are asked of. The scripts make fewer.
 const NUMBERS: u16 = 16;
@@ -61,7 +64,7 @@ fn plain_sum(alloc: Global, text: &str) -> Option<u64> {
 }
 
 /// Runs a script that runs well, and writes into a sink.
-fn run_into<R: Abort>(
+fn run_into<R: Abort + Threads + Wait + Sync>(
     rt: &R,
     alloc: Global,
     script: &str,
@@ -70,13 +73,18 @@ fn run_into<R: Abort>(
     let words = words_of(alloc, &["run"])?;
     let bytes = Vec::from_slice(alloc, script.as_bytes())?;
     let mut source = MemSource::new(bytes, 100, Vec::new(alloc));
-    let found = eka2_main(alloc, words.as_slice(), &mut source, sink);
+    let found = eka2_main(rt, alloc, words.as_slice(), &mut source, sink, &OpenGate);
     assert_eq!(rt; found, Status::Done);
     Ok(())
 }
 
 /// Runs a script, and compares the checksums of what was written, and of what the plain machine makes of it.
-fn expect_sum<R: Abort>(rt: &R, alloc: Global, script: &str, sum: u64) -> Result<(), Fail> {
+fn expect_sum<R: Abort + Threads + Wait + Sync>(
+    rt: &R,
+    alloc: Global,
+    script: &str,
+    sum: u64,
+) -> Result<(), Fail> {
     let mut sink = MemSink::new(alloc, 8_000, 8_000, Vec::new(alloc))?;
     run_into(rt, alloc, script, &mut sink)?;
     assert_eq!(rt; more(NOTHING, sink.bytes()), sum);

@@ -1,10 +1,13 @@
 //! Runs of the whole command over memory.
+use crate::gate::OpenGate;
 use crate::status::Status;
 use crate::top::eka2_main;
 use edge_io::{MemSink, MemSource};
 use std::alloc::{AllocError, Global};
 use std::process::Abort;
+use std::sync::Wait;
 use std::test::Fail;
+use std::thread::Threads;
 
 /// A thread makes a mutex with two handles, closes both, and ends.
 pub const SCRIPT: &str =
@@ -109,7 +112,7 @@ pub fn sink_of(alloc: Global, failing_writes: &[u32]) -> Result<MemSink, AllocEr
 }
 
 /// Runs words over a source and a sink, and compares the status and what was written.
-pub fn expect_run<R: Abort>(
+pub fn expect_run<R: Abort + Threads + Wait + Sync>(
     rt: &R,
     alloc: Global,
     words: &[String],
@@ -118,13 +121,17 @@ pub fn expect_run<R: Abort>(
     status: Status,
     written: &str,
 ) {
-    let found = eka2_main(alloc, words, source, sink);
+    let found = eka2_main(rt, alloc, words, source, sink, &OpenGate);
     assert_eq!(rt; found, status);
     assert_eq!(rt; sink.bytes(), written.as_bytes());
 }
 
 /// Runs a case, and compares the status and what was written.
-pub fn expect_case<R: Abort>(rt: &R, alloc: Global, case: &Case<'_>) -> Result<(), Fail> {
+pub fn expect_case<R: Abort + Threads + Wait + Sync>(
+    rt: &R,
+    alloc: Global,
+    case: &Case<'_>,
+) -> Result<(), Fail> {
     let words = words_of(alloc, case.words)?;
     let mut source = source_of(alloc, case)?;
     let mut sink = sink_of(alloc, case.failing_writes)?;
@@ -217,7 +224,7 @@ fn line_feeds(alloc: Global, count: usize) -> Result<MemSource, AllocError> {
 }
 
 /// Runs an input of so many line feeds, and compares the status and what was written.
-fn expect_line_feeds<R: Abort>(
+fn expect_line_feeds<R: Abort + Threads + Wait + Sync>(
     rt: &R,
     alloc: Global,
     count: usize,

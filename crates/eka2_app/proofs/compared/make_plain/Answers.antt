@@ -7,7 +7,9 @@ pub slot-requires-clause-whole : goal.slot-requires-clause-whole
 slot-requires-clause-whole c = c.loop-slot.invariant.whole
 
 pub slot-requires-clause-declared : goal.slot-requires-clause-declared
-slot-requires-clause-declared c = rw (c.loop-slot.invariant.script, c.as_slice-slot-items.ensures, c.in_ok-slots.ensures) (valid_slot_is_declared c.args.script c.loop-slot.slot-index c.requires)
+slot-requires-clause-declared c =
+    rw (c.loop-slot.invariant.script, c.as_slice-slot-items.ensures, c.in_ok-slots.ensures)
+    (valid_slot_is_declared c.args.script c.loop-slot.slot-index c.requires)
 
 pub slot-requires-clause-few : goal.slot-requires-clause-few
 slot-requires-clause-few c =
