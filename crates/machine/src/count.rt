@@ -1,6 +1,6 @@
 //! Counting references by going over the rows that hold one, up to a number at which counting stops: whether an object has
 //! a further reference is known at the second, and the rows behind aren't looked at.
-ghost use Rattle.std.specs.Prelude.{◌≡◌, ◌+◌, ◌<◌, ◌≤◌, min, nat_lt};
+ghost use Rattle.std.specs.Prelude.{◌≡◌, ◌+◌, ◌<◌, ◌≤◌, if◌then◌else◌, min, nat_lt};
 ghost use Rattle.machine.specs.References.{total, same, option_names, slot_names, thread_names, owed_names, mutex_names, session_names, message_names, server_names, kernel_names, stage_holds, count_of};
 ghost use Rattle.machine.specs.Kept.{is_kept, dies};
 
@@ -56,17 +56,29 @@ fn counted(count: u32, more: u32, most: u32) -> u32
     count.saturating_add(more).min(most)
 }
 
-/// So many references, and those of a handle table to an object.
+/// Whether a slot of a handle table is a handle of an object.
+fn is_handle_of(object: ObjNo, slot: &HandleSlot) -> bool
+    ensures { slot_names object slot.now ≡ (if result then 1 else 0) }
+{
+    match &slot.object {
+        Some(one) => one.0 == object.0,
+        None => false,
+    }
+}
+
+/// So many references, and those of a handle table to an object. Most slots are free: of those no more is looked at.
 fn table_total(object: ObjNo, table: &[HandleSlot], count: u32, most: u32) -> u32
     requires { count ≤ most }
     ensures { result ≡ min (count + total (slot_names object) table.now) most }
 {
     let mut count = count;
     for slot in table {
-        if count == most {
-            return most;
+        if is_handle_of(object, slot) {
+            if most - count <= 1 {
+                return most;
+            }
+            count += 1;
         }
-        count = counted(count, option_names(object, slot.object), most);
     }
     count
 }
@@ -161,28 +173,35 @@ fn lists_total(object: ObjNo, lists: &[Items<ObjNo>], count: u32, most: u32) -> 
     count
 }
 
-/// 1 where a session is linked to this server, else 0.
-fn session_names(object: ObjNo, session: &Option<SessionRow>) -> u32
-    ensures number { result ≡ session_names object session.now }
-    ensures bit { result ≤ 1 }
+/// Whether this is the row of a session that is linked to this server.
+fn is_linked_to(object: ObjNo, session: &Option<SessionRow>) -> bool
+    ensures { session_names object session.now ≡ (if result then 1 else 0) }
 {
     match session {
-        Some(row) => option_names(object, row.server),
-        None => 0,
+        Some(row) => match &row.server {
+            Some(one) => one.0 == object.0,
+            None => false,
+        },
+        None => false,
     }
 }
 
-/// So many references, and those of the sessions that are linked to an object.
+/// So many references, and those of the sessions that are linked to an object. Most numbers have no session.
 fn sessions_total(object: ObjNo, sessions: &[Option<SessionRow>], count: u32, most: u32) -> u32
     requires { count ≤ most }
     ensures { result ≡ min (count + total (session_names object) sessions.now) most }
 {
+    if count == most {
+        return most;
+    }
     let mut count = count;
     for session in sessions {
-        if count == most {
-            return most;
+        if is_linked_to(object, session) {
+            if most - count <= 1 {
+                return most;
+            }
+            count += 1;
         }
-        count = counted(count, session_names(object, session), most);
     }
     count
 }

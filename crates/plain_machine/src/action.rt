@@ -15,7 +15,7 @@ use crate::course::Course;
 use crate::perform::make_move;
 use machine::{Body, Decision, Move, Moves, Outcome, State, touched};
 use next_actions::{leave_queue, op_moves, ops_of, step_of_body};
-use readings::tell_whole;
+use readings::{dead_by, tell_whole};
 use script_types::{Op, Script};
 use std::alloc::Global;
 use sym_base::{Items, NoMemory, ThreadNo};
@@ -36,8 +36,9 @@ fn make_moves(
     ensures course { OnOk result (course.new ≡ course_after script.now thread moves.now state.old course.old) }
 {
     for change in moves {
-        tell_whole(&mut course.effects, state, change);
-        make_move(alloc, state, thread, *change)?;
+        let dead = dead_by(state, change);
+        tell_whole(&mut course.effects, state, change, dead);
+        make_move(alloc, state, thread, *change, dead)?;
         take_out(alloc, *change, &mut course.ready)?;
         arrive_touched(script, state, touched(thread, change), &mut course.ready)?;
     }

@@ -1,11 +1,13 @@
 //! References that are given up, on the plain machine's lists.
 ghost use Rattle.std.specs.Prelude.{◌≡◌, OnOk};
+ghost use Rattle.machine.specs.Kept.{dies};
 ghost use Rattle.machine.specs.Moves.{link_of, link_of_row, moved, objects_closed};
 ghost use Rattle.machine.specs.Rows.{thread_of};
+ghost use Rattle.readings.specs.Dying.{dead_by};
 
 use crate::slots::lose_slot;
 use entry_log::Holder;
-use machine::{Move, Owed, State, dies, row_of, set_row, thread_in};
+use machine::{Move, Owed, State, row_of, set_row, thread_in};
 use plain_rows::{drop_first_owed, owe_close, threads_closed, threads_lose};
 use plain_servers::{owned_lose, server_of, servers_closed, servers_lose};
 use state_rows::{ObjectRow, dead_row};
@@ -39,17 +41,18 @@ fn link_of(state: &State, object: ObjNo) -> Option<ObjNo>
     }
 }
 
-/// A holder gives its reference up, and the thread owes what a close leaves to do.
+/// A holder gives its reference up, of which the object dies or not, and the thread owes what a close leaves to do.
 pub fn lose(
     alloc: Global,
     state: &mut State,
     thread: ThreadNo,
     holder: Holder,
     object: ObjNo,
+    dying: bool,
 ) -> Result<(), NoMemory>
+    requires { dying ≡ dies state.old object }
     ensures { OnOk result (state.new ≡ moved thread (Move.Lose holder object) state.old) }
 {
-    let dying = dies(state, object);
     let link = link_of(state, object);
     lose_slot(&mut state.references.handles, holder);
     threads_lose(&mut state.references.threads, holder);
@@ -61,17 +64,18 @@ pub fn lose(
     owe_close(&mut state.references.owed, thread, dying, object, link)
 }
 
-/// The thread pays a close that it owes.
+/// The thread pays a close that it owes, of which the object dies or not.
 fn pay_close(
     alloc: Global,
     state: &mut State,
     thread: ThreadNo,
     holder: Holder,
     object: ObjNo,
+    dying: bool,
 ) -> Result<(), NoMemory>
+    requires { dying ≡ dies state.old object }
     ensures { OnOk result (state.new ≡ moved thread (Move.Pay (Owed.Close holder object)) state.old) }
 {
-    let dying = dies(state, object);
     let link = link_of(state, object);
     close_object(&mut state.references.objects, dying, object);
     threads_closed(&mut state.references.threads, dying, object);
@@ -89,12 +93,22 @@ fn pay_sweep(state: &mut State, thread: ThreadNo, object: ObjNo)
     drop_first_owed(&mut state.references.owed, thread);
 }
 
-/// The thread pays the oldest of what it owes.
-pub fn pay(alloc: Global, state: &mut State, thread: ThreadNo, what: Owed) -> Result<(), NoMemory>
+/// The thread pays the oldest of what it owes, of which this object dies.
+#[tactic(auto, using(crate::proofs::MoveDeaths::dies_of_pay))]
+pub fn pay(
+    alloc: Global,
+    state: &mut State,
+    thread: ThreadNo,
+    what: Owed,
+    dead: Option<ObjNo>,
+) -> Result<(), NoMemory>
+    requires { dead ≡ dead_by (Move.Pay what) state.old }
     ensures { OnOk result (state.new ≡ moved thread (Move.Pay what) state.old) }
 {
     match what {
-        Owed::Close(holder, object) => pay_close(alloc, state, thread, holder, object),
+        Owed::Close(holder, object) => {
+            pay_close(alloc, state, thread, holder, object, dead.is_some())
+        }
         Owed::Sweep(object) => {
             pay_sweep(state, thread, object);
             Ok(())

@@ -3,6 +3,7 @@ ghost use Rattle.std.specs.Prelude.{◌≡◌, ◌+◌, ◌≤◌, length, OnOk}
 ghost use Rattle.machine.specs.Moves.{use_of, moved};
 ghost use Rattle.machine.specs.Room.{HasRoom, AreSmallTables};
 ghost use Rattle.plain_machine.specs.Allowed.{IsSmall};
+ghost use Rattle.readings.specs.Dying.{dead_by};
 
 use crate::closes::{lose, pay};
 use crate::slots::gain_slot;
@@ -77,23 +78,28 @@ fn gain(state: &mut State, thread: ThreadNo, holder: Holder, object: ObjNo)
     threads_gain(&mut state.references.threads, holder, object);
 }
 
-/// One move in an action of a thread.
+/// One move in an action of a thread, of which this object dies.
+#[tactic(auto, using(crate::proofs::MoveDeaths::dies_of_lose))]
 pub fn make_move(
     alloc: Global,
     state: &mut State,
     thread: ThreadNo,
     change: Move,
+    dead: Option<ObjNo>,
 ) -> Result<(), NoMemory>
     requires room { HasRoom 1 state.old }
     requires small { IsSmall state.old }
+    requires dead { dead ≡ dead_by change state.old }
     ensures { OnOk result (state.new ≡ moved thread change state.old) }
 {
     match change {
         Move::Make(kind, name, holder) => return make(state, thread, kind, name, holder),
-        Move::Lose(holder, object) => return lose(alloc, state, thread, holder, object),
+        Move::Lose(holder, object) => {
+            return lose(alloc, state, thread, holder, object, dead.is_some());
+        }
         Move::PutDown(other) => return put_down(state, thread, other),
         Move::Advance(other) => return advance(state, thread, other),
-        Move::Pay(what) => return pay(alloc, state, thread, what),
+        Move::Pay(what) => return pay(alloc, state, thread, what, dead),
         Move::Gain(holder, object) => gain(state, thread, holder, object),
         Move::Open(other, object, part) => {
             threads_open(&mut state.references.threads, other, object, part);

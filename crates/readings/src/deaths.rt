@@ -1,4 +1,5 @@
-//! What moves tell that are made in the plain machine's state, where a death is read before the move.
+//! What moves tell that are made in the plain machine's state, where a death is read before the move: once, for what is told and
+//! for what changes.
 ghost use Rattle.std.specs.Prelude.{◌≡◌, ◌+◌, ◌≤◌, ◌++◌, if◌then◌else◌, Some, None, length};
 ghost use Rattle.machine.specs.Kept.{dies};
 ghost use Rattle.machine.specs.Moves.{told};
@@ -21,8 +22,8 @@ fn dead_of(state: &State, object: ObjNo) -> Option<ObjNo>
     }
 }
 
-/// The object that dies of a move.
-fn dead_by(state: &State, change: &Move) -> Option<ObjNo>
+/// The object that dies of a move. That means counting its references, up to the second.
+pub fn dead_by(state: &State, change: &Move) -> Option<ObjNo>
     ensures { result ≡ dead_by change.now state.now }
 {
     match *change {
@@ -32,13 +33,13 @@ fn dead_by(state: &State, change: &Move) -> Option<ObjNo>
     }
 }
 
-/// Tells a move and the death of an object by it, from the state before it, behind the effects so far.
-pub fn tell_whole(effects: &mut Effects, state: &State, change: &Move)
+/// Tells a move and the death of this object by it, from the state before it, behind the effects so far.
+pub fn tell_whole(effects: &mut Effects, state: &State, change: &Move, dead: Option<ObjNo>)
     requires readable { IsReadable state.now }
     requires few { length effects.old + length (told change.now state.now) ≤ 4 }
+    requires dead { dead ≡ dead_by change.now state.now }
     ensures { effects.new ≡ effects.old ++ told change.now state.now }
 {
-    let dead = dead_by(state, change);
     tell(effects, state, change);
     tell_death(effects, dead);
 }

@@ -8,7 +8,7 @@ mod plain;
 mod reads;
 mod task;
 
-pub use deaths::tell_whole;
+pub use deaths::{dead_by, tell_whole};
 pub use move_effects::{tell, tell_death};
 pub use plain_reads::{
     burial_of, burial_place, first_of_greatest, first_used, is_buried_by, is_left, is_one_left,

@@ -18,13 +18,13 @@ tell_death-requires c =
     let sum = length-append (told_alive c.args.change.now c.args.state.now) (dead_told (dead_by c.args.change.now c.args.state.now)) in
     let before = ap length c.tell.ensures in
     let so_far = length-append c.args.effects.now (told_alive c.args.change.now c.args.state.now) in
-    rw c.dead_by-dead.ensures (omega arith)
+    rw c.requires.dead (omega arith)
 
 pub returns : goal.returns
 returns c =
     let alive = told_alive c.args.change.now c.args.state.now in
     let dead = dead_told (dead_by c.args.change.now c.args.state.now) in
     c.tell_death.ensures
-    ∙ rw (c.tell.ensures, c.dead_by-dead.ensures)
+    ∙ rw (c.tell.ensures, c.requires.dead)
     (append_assoc c.args.effects.now alive dead
     ∙ ap (λ (l : List Effect). c.args.effects.now ++ l) (sym (told_dead c.args.change.now c.args.state.now)))
