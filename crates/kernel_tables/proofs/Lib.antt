@@ -11,6 +11,7 @@ mod LastClose
 mod LockRows
 mod NotesBack
 mod Noting
+mod OwnMoves
 mod Owning
 pub mod Performing
 mod Ranks

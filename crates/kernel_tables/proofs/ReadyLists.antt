@@ -15,7 +15,7 @@ use Rattle.kernel_tables.specs.Moved.{is_set}
 use Rattle.kernel_tables.specs.ReadyQueues.{leave, leave_along}
 
 -- threads of one number are one
-one_thread : (x y : ObjNo) → (x.0 == y.0) ≡ true → x ≡ y
+pub one_thread : (x y : ObjNo) → (x.0 == y.0) ≡ true → x ≡ y
 one_thread x y e = let named : ℕ → ObjNo = λ n. record { 0 = n } in ap named (eqb-true x.0 y.0 e)
 
 -- who stands in a list with one more

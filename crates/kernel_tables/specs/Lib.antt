@@ -7,6 +7,7 @@ pub mod LockMoved
 pub mod ServerMoved
 pub mod Moved
 pub mod ReadyQueues
+pub mod OwnMoves
 pub mod RunsOn
 pub mod CoreView
 pub mod Performed

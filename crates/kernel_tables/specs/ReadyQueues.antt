@@ -7,7 +7,8 @@ use Rattle.ready_list.specs.Ready.{Ready}
 use Rattle.ready_list.specs.Arrival.{AreQueuesOf}
 use Rattle.machine.specs.declared.moves.Move.{Move}
 use Rattle.machine.specs.declared.state.State.{State}
-use Rattle.machine.specs.Arrivals.{is_listed, unlisted, touched}
+use Rattle.machine.specs.Arrivals.{arrive, is_listed, taken_out, touched, unlisted}
+use Rattle.machine.specs.Choice.{priority_of}
 use Rattle.machine.specs.Task.{is_ready}
 use Rattle.machine.specs.WellFormed.{AreApart}
 
@@ -29,6 +30,12 @@ pub record AreReady (rank : ObjNo → ℕ) (qs : List ObjNo) (r : Ready) : Type 
 -- the queues change as the list of ready threads does, whichever it is
 abbrev pub Follow : (ObjNo → ℕ) → (List ObjNo → List ObjNo) → Ready → Ready → Type 0
 Follow rank change old new = (qs : List ObjNo) → AreReady rank qs old → AreReady rank (change qs) new
+
+-- the queues follow a move of an action of thread t, by which the state became S: whom it takes out leaves, and then those come that it touched
+pub record FollowsMove (script : Script) (t : ObjNo) (m : Move) (S : State) (old new : Ready) : Type 0 where
+  pub between : Ready
+  pub leaves : (rank : ObjNo → ℕ) → Follow rank (taken_out m) old between
+  pub comes : Follow (priority_of S) (arrive script S (touched t m)) between new
 
 -- threads leave a list, those that aren't ready
 abbrev pub leave : Script → State → List ObjNo → List ObjNo → List ObjNo

@@ -16,10 +16,10 @@ ghost use Rattle.kernel_tables.specs.ReadyQueues.{Follow, leave_along, pairs};
 ghost use Rattle.kernel_tables.specs.StateOf.{state_of};
 
 use crate::moves::make_move;
-use crate::ready::{arrive_touched, chosen, leave_along, take_out, turn};
+use crate::ready::{chosen, follow_move, leave_along, turn};
 use crate::tables::Tables;
 use entry_log::{Actor, Effects};
-use machine::{Decision, Mode, Move, touched};
+use machine::{Decision, Mode, Move};
 use readings::{tell, tell_death};
 use ready_list::ReadyList;
 use ref_words::RefWords;
@@ -82,8 +82,7 @@ impl<W: RefWords + Drop> Core<W> {
             tell(effects, tables, change);
             let dead = make_move(tables, thread, change);
             tell_death(effects, dead);
-            take_out(ready, change);
-            arrive_touched(script, tables, ready, touched(thread, change));
+            follow_move(script, tables, ready, thread, change);
         }
     }
 

@@ -10,6 +10,7 @@ mod kernel_notes;
 mod lock_moves;
 mod moves;
 mod note_moves;
+mod own_moves;
 mod reading;
 mod ready;
 mod server_moves;

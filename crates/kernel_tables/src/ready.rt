@@ -1,16 +1,18 @@
 //! The queues of ready threads follow the moves of an action: who becomes ready comes, and who has nothing left to
 //! do leaves at the end.
-ghost use Rattle.std.specs.Prelude.{◌≡◌, ℕ, ◌<◌, List, [], ◌∷◌};
+ghost use Rattle.std.specs.Prelude.{◌≡◌, ℕ, ◌<◌, true, List, [], ◌∷◌};
 ghost use Rattle.sym_base.specs.declared.limits.TheConstants.Limits.{BOOT_OBJECTS};
 ghost use Rattle.sym_base.specs.declared.number.ObjNo.{ObjNo};
 ghost use Rattle.machine.specs.Arrivals.{arrive, one_of, taken_out, threads_of, unlisted};
 ghost use Rattle.ready_list.specs.Arrival.{AreQueuesOf};
+ghost use Rattle.ready_list.specs.Ready.{IsReady};
 ghost use Rattle.machine.specs.Choice.{chosen, priority_of};
 ghost use Rattle.machine.specs.Tick.{after_tick};
 ghost use Rattle.kernel_tables.specs.Moved.{AreKnown};
-ghost use Rattle.kernel_tables.specs.ReadyQueues.{Follow, pairs, leave, leave_along};
+ghost use Rattle.kernel_tables.specs.ReadyQueues.{Follow, FollowsMove, pairs, leave, leave_along};
 ghost use Rattle.kernel_tables.specs.StateOf.{state_of};
 
+use crate::own_moves::{are_own, is_own};
 use crate::staying::is_running;
 use crate::tables::Tables;
 use entry_log::Actor;
@@ -66,6 +68,14 @@ pub fn arrive_touched<W: RefWords + Drop>(
     arrive(script, tables, ready, touched.second);
 }
 
+/// Whether a thread stands in a queue.
+fn is_queued(ready: &ReadyList, thread: ThreadNo) -> bool
+    requires { ready.now.threads ≡ BOOT_OBJECTS }
+    ensures { result ≡ true → IsReady ready.now thread }
+{
+    (thread.0 as usize) < Limits::BOOT_OBJECTS && ready.priority_of(thread).is_some()
+}
+
 /// Takes a thread off the queues, where it stands in one.
 fn take_off(ready: &mut ReadyList, thread: ThreadNo)
     requires { ready.old.threads ≡ BOOT_OBJECTS }
@@ -81,7 +91,7 @@ fn take_off(ready: &mut ReadyList, thread: ThreadNo)
 }
 
 /// A thread whose priority a move sets leaves, and so comes anew; one whose row is swept leaves.
-pub fn take_out(ready: &mut ReadyList, change: &Move)
+fn take_out(ready: &mut ReadyList, change: &Move)
     requires { ready.old.threads ≡ BOOT_OBJECTS }
     ensures size { ready.new.threads ≡ BOOT_OBJECTS }
     ensures queues { (rank : ObjNo → ℕ) → Follow rank (taken_out change.now) ready.old ready.new }
@@ -91,6 +101,28 @@ pub fn take_out(ready: &mut ReadyList, change: &Move)
         Move::Pay(Owed::Sweep(object)) => take_off(ready, object),
         _ => {}
     }
+}
+
+/// The queues follow a move: whom it takes out leaves, and then those come that it touched. Most moves touch the acting thread alone,
+/// which stands in a queue already.
+#[inline(always)]
+pub fn follow_move<W: RefWords + Drop>(
+    script: &Script,
+    tables: &Tables<W>,
+    ready: &mut ReadyList,
+    thread: ThreadNo,
+    change: &Move,
+)
+    requires known { AreKnown (state_of tables.now) }
+    requires size { ready.old.threads ≡ BOOT_OBJECTS }
+    ensures size { ready.new.threads ≡ BOOT_OBJECTS }
+    ensures queues { FollowsMove script.now thread change.now (state_of tables.now) ready.old ready.new }
+{
+    if is_own(thread, change) && is_queued(ready, thread) {
+        return;
+    }
+    take_out(ready, change);
+    arrive_touched(script, tables, ready, touched(thread, change));
 }
 
 /// A thread leaves, where a look at what it does next tells that it isn't ready.
@@ -147,7 +179,8 @@ fn leave_touched<W: RefWords + Drop>(
 }
 
 /// Of those that the moves of an action touched, who isn't ready leaves.
-pub fn leave_along<W: RefWords + Drop>(
+#[inline(never)]
+fn leave_each<W: RefWords + Drop>(
     script: &Script,
     tables: &Tables<W>,
     ready: &mut ReadyList,
@@ -161,6 +194,25 @@ pub fn leave_along<W: RefWords + Drop>(
     for change in moves {
         leave_touched(script, tables, ready, touched(thread, change));
     }
+}
+
+/// Of those that the moves of an action touched, who isn't ready leaves: nobody, where they touched the acting thread alone and it runs on.
+#[inline(always)]
+pub fn leave_along<W: RefWords + Drop>(
+    script: &Script,
+    tables: &Tables<W>,
+    ready: &mut ReadyList,
+    thread: ThreadNo,
+    moves: &[Move],
+)
+    requires { ready.old.threads ≡ BOOT_OBJECTS }
+    ensures size { ready.new.threads ≡ BOOT_OBJECTS }
+    ensures queues { (rank : ObjNo → ℕ) → Follow rank (leave_along script.now (state_of tables.now) thread moves.now) ready.old ready.new }
+{
+    if is_running(tables, thread) && are_own(thread, moves) {
+        return;
+    }
+    leave_each(script, tables, ready, thread, moves);
 }
 
 /// Whom the queues let act: the oldest item of the immediate queue, where it has one; else the first thread of the highest

@@ -103,8 +103,8 @@ tell_death-requires g c =
     let sum = length-append (told_alive m S) (dead_told (dead_by m T)) in
     rw c.make_move-dead.ensures.dead (omega arith)
 
-pub arrive_touched-requires-clause-known : goal.arrive_touched-requires-clause-known
-arrive_touched-requires-clause-known g c =
+pub follow_move-requires-clause-known : goal.follow_move-requires-clause-known
+follow_move-requires-clause-known g c =
     let m = c.change-item.result in
     let old = c.loop-change.tables in
     let new = c.make_move-dead.new.tables in
@@ -136,9 +136,9 @@ loop-change-preserved g c =
     rw c.as_slice-change-items.ensures.moves (rw (← c.self.view_is) at c.requires.go) in
     let goes = way_goes script t _ first c.self.inside.ready c.args.effects.now m _
     (state_of old) c.loop-change.ready c.loop-change.effects once way go new.mode.keep (leaves m old new moved.mode) in
-    let follow = rw c.touched.ensures at c.arrive_touched.ensures.queues in
-    let one = performed_one script t m old new c.loop-change.ready c.take_out.new.ready c.arrive_touched.new.ready
-    c.loop-change.effects goes.runs moved c.take_out.ensures.queues follow in
+    let follows = c.follow_move.ensures.queues in
+    let one = performed_one script t m old new c.loop-change.ready follows.between c.follow_move.new.ready
+    c.loop-change.effects goes.runs moved follows.leaves follows.comes in
     let effects : c.tell_death.new.effects ≡ c.loop-change.effects ++ told m (chosen_state old new) =
     c.tell_death.ensures
     ∙ rw (c.tell.ensures, c.make_move-dead.ensures.dead)
@@ -148,9 +148,9 @@ loop-change-preserved g c =
       way =
           rw effects (way_goes_on script t _ first c.self.inside.ready c.args.effects.now m _
           (state_of old) c.loop-change.ready c.loop-change.effects once way
-          (state_of new) c.arrive_touched.new.ready _ one);
+          (state_of new) c.follow_move.new.ready _ one);
       kept = still_kept script t m old new goes.runs c.loop-change.invariant.kept moved;
-      size = c.arrive_touched.ensures.size;
+      size = c.follow_move.ensures.size;
       sought = still_sought script t m old new goes.runs moved c.loop-change.invariant.sought;
       notes = moved.notes ∙ c.loop-change.invariant.notes;
     }
