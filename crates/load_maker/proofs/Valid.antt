@@ -41,7 +41,7 @@ clients_lines a b c d = client_block 0 a ++ (client_block 1 b ++ (client_block 2
 
 abbrev lines_of : List Instr → List Instr → List Instr → List Instr → List Instr → ℕ → List SourceLine
 lines_of s a b c d slots =
-    line.Header ∷ (block (codes "fs") (codes "sv") 30 s ++
+    line.Header 1 ∷ (block (codes "fs") (codes "sv") 30 s ++
     (clients_lines a b c d ++ (schedule_lines (replicate slots slot.Go) ++ line.End ∷ [])))
 
 abbrev script_with : List Instr → List Instr → List Instr → List Instr → List Instr → Script
@@ -93,14 +93,14 @@ lines_stand : (file : List Declared) (s a b c d : List Instr) (slots : ℕ) → 
     → Makes file start (lines_of s a b c d slots) (at_rank (script_with s a b c d) 11 (replicate slots slot.Go))
 lines_stand file s a b c d slots es ea eb ec ed few =
     let short : 0 + length s ≤ 65536 = omega (arith, es.short) in
-    let header : Makes file start (line.Header ∷ []) (so_far empty_script 0 false) = record {
+    let header : Makes file start (line.Header 1 ∷ []) (so_far empty_script 0 false) = record {
       stand = (record { order = refl; ranges = refl; kind = refl; new = refl; known = refl; within = refl }, tt);
       makes = refl;
     } in
     let server = block_stands file 0 [] [] (codes "fs") (codes "sv") 30 s refl refl es.allowed (omega (arith, es.short)) short in
     let clients = clients_stand file s a b c d es ea eb ec ed in
     let ends = end_stands file (script_with s a b c d) slots few in
-    makes_more file _ _ _ (line.Header ∷ []) _ header
+    makes_more file _ _ _ (line.Header 1 ∷ []) _ header
     (makes_more file _ _ _ (block (codes "fs") (codes "sv") 30 s) _ server
     (makes_more file _ _ _ (clients_lines a b c d) _ clients ends))
 

@@ -119,10 +119,10 @@ module _ (s : Script) where
 line_again : (file : List Declared) (s : Script) (rank : ℕ) (awaits : Bool) (l : SourceLine)
     → Stands file (so_far s rank awaits) l → IsSound (so_far s rank awaits) → IsFront s rank → HasLast s rank awaits
     → declared_lines (told s l) ≡ declared_lines s ++ tells l
-line_again file s rank awaits line.Header h sound f o = absurd (no_header awaits rank h.order)
+line_again file s rank awaits (line.Header version) h sound f o = absurd (no_header awaits rank h.order)
 line_again file s rank awaits (line.Pool n) h sound f o =
     let below = first_setting rank 1 (earlier (Some rank) awaits of.Pool refl h.order) h.new in
-    ap (λ (ls : List SourceLine). line.Header ∷ ls)
+    ap (λ (ls : List SourceLine). line.Header s.version ∷ ls)
     (group_grows [] (pool s) (setting_lines line.Pool n) (setting_lines line.Pool n)
     (fast s ∷ queues s ∷ dfcs s ∷ idfcs s ∷ irqs s ∷ kernel s ∷ processes s ∷ [])
     (ap (λ (ls : List SourceLine). ls ++ setting_lines line.Pool n) (sym (no_pool s rank f below))) (
@@ -140,7 +140,7 @@ line_again file s rank awaits (line.Pool n) h sound f o =
     ))
 line_again file s rank awaits (line.Fast n) h sound f o =
     let below = first_setting rank 2 (earlier (Some rank) awaits of.Fast refl h.order) h.new in
-    ap (λ (ls : List SourceLine). line.Header ∷ ls)
+    ap (λ (ls : List SourceLine). line.Header s.version ∷ ls)
     (group_grows (pool s) (fast s) (setting_lines line.Fast n) (setting_lines line.Fast n)
     (queues s ∷ dfcs s ∷ idfcs s ∷ irqs s ∷ kernel s ∷ processes s ∷ [])
     (ap (λ (ls : List SourceLine). ls ++ setting_lines line.Fast n) (sym (no_fast s rank f below))) (
@@ -158,7 +158,7 @@ line_again file s rank awaits (line.Fast n) h sound f o =
     ))
 line_again file s rank awaits (line.Queue name p) h sound f o =
     let le = earlier (Some rank) awaits of.Queue refl h.order in
-    ap (λ (ls : List SourceLine). line.Header ∷ ls)
+    ap (λ (ls : List SourceLine). line.Header s.version ∷ ls)
     (group_grows (pool s ++ fast s) (queues s) (map queue_line (told s (line.Queue name p)).queues)
     (line.Queue name p ∷ []) (dfcs s ∷ idfcs s ∷ irqs s ∷ kernel s ∷ processes s ∷ [])
     (map-append queue_line s.queues _) (
@@ -170,19 +170,19 @@ line_again file s rank awaits (line.Queue name p) h sound f o =
     ))
 line_again file s rank awaits (line.Dfc name queue p ops) h sound f o =
     let le = earlier (Some rank) awaits of.Dfc refl h.order in
-    ap (λ (ls : List SourceLine). line.Header ∷ ls)
+    ap (λ (ls : List SourceLine). line.Header s.version ∷ ls)
     (group_grows (pool s ++ fast s ++ queues s) (dfcs s) (map dfc_line (told s (line.Dfc name queue p ops)).dfcs)
     (line.Dfc name queue p ops ∷ []) (idfcs s ∷ irqs s ∷ kernel s ∷ processes s ∷ []) (map-append dfc_line s.dfcs _)
     (no_idfcs s rank f (omega arith), (no_irqs s rank f (omega arith), (no_kernel s rank f (omega arith), (no_processes s rank f (omega arith), tt)))))
 line_again file s rank awaits (line.Idfc name ops) h sound f o =
     let le = earlier (Some rank) awaits of.Idfc refl h.order in
-    ap (λ (ls : List SourceLine). line.Header ∷ ls)
+    ap (λ (ls : List SourceLine). line.Header s.version ∷ ls)
     (group_grows (pool s ++ fast s ++ queues s ++ dfcs s) (idfcs s) (map idfc_line (told s (line.Idfc name ops)).idfcs)
     (line.Idfc name ops ∷ []) (irqs s ∷ kernel s ∷ processes s ∷ []) (map-append idfc_line s.idfcs _)
     (no_irqs s rank f (omega arith), (no_kernel s rank f (omega arith), (no_processes s rank f (omega arith), tt))))
 line_again file s rank awaits (line.IrqBody k ops) h sound f o =
     let le = earlier (Some rank) awaits of.IrqBody refl h.order in
-    ap (λ (ls : List SourceLine). line.Header ∷ ls)
+    ap (λ (ls : List SourceLine). line.Header s.version ∷ ls)
     (group_grows (pool s ++ fast s ++ queues s ++ dfcs s ++ idfcs s) (irqs s)
     (map irq_line (told s (line.IrqBody k ops)).irqs) (line.IrqBody k ops ∷ []) (kernel s ∷ processes s ∷ [])
     (map-append irq_line s.irqs _)
@@ -191,20 +191,20 @@ line_again file s rank awaits (line.KernelThread name p held) h sound f o =
     let le = earlier (Some rank) awaits of.KernelThread refl h.order in
     let none : last_owner s.processes ≡ None = ap last_owner (f.processes (omega arith)) in
     let t : ThreadDecl = record { name = name; priority = p; held = held; process = None; instrs = [] } in
-    ap (λ (ls : List SourceLine). line.Header ∷ ls)
+    ap (λ (ls : List SourceLine). line.Header s.version ∷ ls)
     (thread_push (pool s ++ fast s ++ queues s ++ dfcs s ++ idfcs s ++ irqs s) s.processes s.threads t (sym none))
 line_again file s rank awaits (line.Process name) h sound f o =
-    ap (λ (ls : List SourceLine). line.Header ∷ ls)
+    ap (λ (ls : List SourceLine). line.Header s.version ∷ ls)
     (process_push (pool s ++ fast s ++ queues s ++ dfcs s ++ idfcs s ++ irqs s) s.processes
     (record { name = name }) s.threads sound.threads)
 line_again file s rank awaits (line.Thread name p held) h sound f o =
     let least = thread_needs (so_far s rank awaits) (Some rank) awaits refl refl h.order sound in
     let t : ThreadDecl = record { name = name; priority = p; held = held; process = Some (last_of s.processes); instrs = [] } in
-    ap (λ (ls : List SourceLine). line.Header ∷ ls)
+    ap (λ (ls : List SourceLine). line.Header s.version ∷ ls)
     (thread_push (pool s ++ fast s ++ queues s ++ dfcs s ++ idfcs s ++ irqs s) s.processes s.threads t
     (owner_is s.processes least))
 line_again file s rank awaits (line.Instr what) h sound f o =
-    ap (λ (ls : List SourceLine). line.Header ∷ ls)
+    ap (λ (ls : List SourceLine). line.Header s.version ∷ ls)
     (instr_push (pool s ++ fast s ++ queues s ++ dfcs s ++ idfcs s ++ irqs s) s.processes s.threads what
     (in_last s rank awaits h.order o))
 line_again file s rank awaits _ h sound f o = sym (append-nil (declared_lines s))

@@ -29,8 +29,8 @@ pub record IsFront (s : Script) (rank : ℕ) : Type 0 where
   pub processes : rank < 8 → s.processes ≡ []
   pub slots : rank < 9 → s.slots ≡ []
 
-pub front_start : IsFront empty_script 0
-front_start = record {
+pub front_start : (version : ℕ) → IsFront (record empty_script { version = version }) 0
+front_start version = record {
   pool = λ e. refl;
   fast = λ e. refl;
   queues = λ e. refl;
@@ -63,7 +63,19 @@ thread_rank false rank at h = grind (arith, nat_tests)
 pub front_after : (file : List Declared) (s : Script) (rank : ℕ) (awaits : Bool) (l : SourceLine)
     → Stands file (so_far s rank awaits) l → (awaits ≡ true → rank ≡ 8) → IsFront s rank
     → IsFront (told s l) (rank_of rank (kind_of l))
-front_after file s rank awaits line.Header h at f = later s rank 0 (earlier (Some rank) awaits of.Header refl h.order) f
+front_after file s rank awaits (line.Header version) h at f =
+    let w = later s rank 0 (earlier (Some rank) awaits of.Header refl h.order) f in
+    record {
+      pool = w.pool;
+      fast = w.fast;
+      queues = w.queues;
+      dfcs = w.dfcs;
+      idfcs = w.idfcs;
+      irqs = w.irqs;
+      threads = w.threads;
+      processes = w.processes;
+      slots = w.slots;
+    }
 front_after file s rank awaits (line.Pool n) h at f =
     let w = later s rank 1 (earlier (Some rank) awaits of.Pool refl h.order) f in
     record {
@@ -243,8 +255,8 @@ pub record HasLast (s : Script) (rank : ℕ) (awaits : Bool) : Type 0 where
   pub awaited : awaits ≡ true → rank ≡ 8
   pub last : 7 ≤ rank → rank ≤ 8 → awaits ≡ false → EndsIn (last_owner s.processes) s.threads
 
-pub last_start : HasLast empty_script 0 false
-last_start = record { awaited = λ e. absurd (cc); last = λ e f g. absurd (omega arith) }
+pub last_start : (version : ℕ) → HasLast (record empty_script { version = version }) 0 false
+last_start version = record { awaited = λ e. absurd (cc); last = λ e f g. absurd (omega arith) }
 
 pub owner_is : (ps : List ProcessDecl) → 0 < length ps → Some (last_of ps) ≡ last_owner ps
 owner_is [] h = absurd (omega arith)

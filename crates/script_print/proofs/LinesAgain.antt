@@ -161,7 +161,7 @@ module _ (file other : List Declared) (t : Carries file other) where
       → Stand other (so_far s low awaits) (rest_of lines (after_all (so_far s high awaits) lines))
       (after_all (so_far s high awaits) lines)
   goes s low high awaits [] lower le at f stand ended = let eleven : high ≡ 11 = grind (arith, nat_tests) in absurd (omega arith)
-  goes s low high awaits (line.Header ∷ ls) lower le at f stand ended = absurd (no_header awaits high stand.0.order)
+  goes s low high awaits (line.Header version ∷ ls) lower le at f stand ended = absurd (no_header awaits high stand.0.order)
   goes s low high awaits (line.Go count ∷ ls) lower le at f stand ended = absurd (no_slot awaits high le stand.0.order)
   goes s low high awaits (line.IrqSlot k ∷ ls) lower le at f stand ended = absurd (no_slot awaits high le stand.0.order)
   goes s low high awaits (line.Tick ∷ ls) lower le at f stand ended = absurd (no_slot awaits high le stand.0.order)
@@ -222,21 +222,22 @@ module _ (file other : List Declared) (t : Carries file other) where
 pub canonical_stands : (lines : List SourceLine) → AllStand (twos lines) start lines → is_ended (after_all start lines) ≡ true
     → Stand (twos (canonical_lines (after_all start lines).script)) start (canonical_lines (after_all start lines).script) (after_all start lines)
 canonical_stands [] stand ended = absurd (cc)
-canonical_stands (line.Header ∷ ls) stand ended =
-    let file : List Declared = twos (line.Header ∷ ls) in
-    let made : Context = after_all (so_far empty_script 0 false) ls in
-    let declared : declared_lines made.script ≡ line.Header ∷ said ls =
-    lines_again file empty_script 0 false ls stand.1
-    (sound-after file start line.Header stand.0 sound-start) front_start last_start in
-    let are : canonical_lines made.script ≡ line.Header ∷ rest_of ls made =
+canonical_stands (line.Header version ∷ ls) stand ended =
+    let begun : Script = record empty_script { version = version } in
+    let file : List Declared = twos (line.Header version ∷ ls) in
+    let made : Context = after_all (so_far begun 0 false) ls in
+    let declared : declared_lines made.script ≡ line.Header version ∷ said ls =
+    lines_again file begun 0 false ls stand.1
+    (sound-after file start (line.Header version) stand.0 sound-start) (front_start version) (last_start version) in
+    let are : canonical_lines made.script ≡ line.Header version ∷ rest_of ls made =
     ap (λ (xs : List SourceLine). xs ++ schedule_lines made.script.slots ++ line.End ∷ []) declared
-    ∙ append_assoc (line.Header ∷ said ls) (schedule_lines made.script.slots) (line.End ∷ []) in
-    let other : List Declared = twos (line.Header ∷ rest_of ls made) in
-    let t : Carries file other = carries file ls (schedule_lines made.script.slots ++ line.End ∷ []) stand.1 in
-    let h = goes file other t empty_script 0 0 false ls (record { under = omega arith; same = λ e. refl }) (omega arith)
-    (λ e. absurd (cc)) front_start stand.1 ended in
-    let whole : Stand other start (line.Header ∷ rest_of ls made) made = record {
-      stand = (known_stands file other t start line.Header stand.0, h.stand);
+    ∙ append_assoc (line.Header version ∷ said ls) (schedule_lines made.script.slots) (line.End ∷ []) in
+    let other : List Declared = twos (line.Header version ∷ rest_of ls made) in
+    let t : Carries file other = carries file version ls (schedule_lines made.script.slots ++ line.End ∷ []) stand.1 in
+    let h = goes file other t begun 0 0 false ls (record { under = omega arith; same = λ e. refl }) (omega arith)
+    (λ e. absurd (cc)) (front_start version) stand.1 ended in
+    let whole : Stand other start (line.Header version ∷ rest_of ls made) made = record {
+      stand = (known_stands file other t start (line.Header version) stand.0, h.stand);
       makes = h.makes;
     } in
     subst (λ (ks : List SourceLine). Stand (twos ks) start ks made) (sym are) whole

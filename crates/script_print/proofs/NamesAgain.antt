@@ -194,10 +194,11 @@ irqs_carry file s rank awaits (l ∷ ls) rest number le stand h =
     (omega arith) stand.1) h
 
 -- the lines behind the header, and what stands behind those of them that declare
-pub carries : (file : List Declared) (lines rest : List SourceLine) → AllStand file (so_far empty_script 0 false) lines
-    → Carries (twos (line.Header ∷ lines)) (twos (line.Header ∷ (said lines ++ rest)))
-carries file lines rest stand =
-    let all : List SourceLine = line.Header ∷ lines in
+pub carries : (file : List Declared) (version : ℕ) (lines rest : List SourceLine)
+    → AllStand file (so_far (record empty_script { version = version }) 0 false) lines
+    → Carries (twos (line.Header version ∷ lines)) (twos (line.Header version ∷ (said lines ++ rest)))
+carries file version lines rest stand =
+    let all : List SourceLine = line.Header version ∷ lines in
     let name_carries : (sort : List ℕ) → IsKept sort → (name : List ℕ) → is_declared (twos all) sort name ≡ true
     → is_declared (twos (said all ++ rest)) sort name ≡ true =
     λ sort kept name h. in_front sort name (said all) rest (names_carry sort kept all name h) in
@@ -218,6 +219,6 @@ carries file lines rest stand =
           (is_declared (twos (said all ++ rest)) (codes "kthread") name) (threads name) (kernel name))
           (queues name);
       irqs =
-          λ number. keeps number (first_two (source_words line.Header)) (twos lines) (twos (said lines ++ rest))
-          (irqs_carry file empty_script 0 false lines rest number (omega arith) stand);
+          λ number. keeps number (first_two (source_words (line.Header version))) (twos lines) (twos (said lines ++ rest))
+          (irqs_carry file (record empty_script { version = version }) 0 false lines rest number (omega arith) stand);
     }

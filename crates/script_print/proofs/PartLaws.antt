@@ -60,7 +60,7 @@ nine_parts out header a b c d e f g h = simp (flat_map-append, append_assoc)
 more : (a b c : List ℕ) → a ≡ b → a ++ c ≡ b ++ c
 more a b c e = ap (λ t. t ++ c) e
 
-pub declared_by : (s : Script) (o0 o1 o2 o3 o4 o5 o6 o7 o8 o9 : List ℕ) → o1 ≡ o0 ++ source_text line.Header
+pub declared_by : (s : Script) (o0 o1 o2 o3 o4 o5 o6 o7 o8 o9 : List ℕ) → o1 ≡ o0 ++ source_text (line.Header s.version)
     → o2 ≡ o1 ++ source_texts (setting_lines line.Pool s.pool)
     → o3 ≡ o2 ++ source_texts (setting_lines line.Fast s.fast) → o4 ≡ o3 ++ source_texts (map queue_line s.queues)
     → o5 ≡ o4 ++ source_texts (map dfc_line s.dfcs) → o6 ≡ o5 ++ source_texts (map idfc_line s.idfcs) → o7
@@ -78,7 +78,7 @@ declared_by s o0 o1 o2 o3 o4 o5 o6 o7 o8 o9 h1 h2 h3 h4 h5 h6 h7 h8 h9 =
     let e8 = h8 ∙ more _ _ _ e7 in
     let e9 = h9 ∙ more _ _ _ e8 in
     e9
-    ∙ nine_parts o0 (source_text line.Header) (setting_lines line.Pool s.pool) (setting_lines line.Fast s.fast)
+    ∙ nine_parts o0 (source_text (line.Header s.version)) (setting_lines line.Pool s.pool) (setting_lines line.Fast s.fast)
     (map queue_line s.queues) (map dfc_line s.dfcs) (map idfc_line s.idfcs) (map irq_line s.irqs)
     (flat_map thread_lines (threads_of None s.threads)) (processes_lines s.threads 0 s.processes)
 

@@ -175,7 +175,6 @@ value_plain (operand.Number low high) n fits h =
     let le = leb-true n high (both (nat_le low n) (nat_le n high) h).1 in
     let lt = ltb-true high 4294967296 fits in
     number_plain n (omega arith)
-value_plain operand.Version n fits h = refl
 value_plain operand.Code z fits h = signed_plain 2147483645 2147483647 z (omega arith) (omega arith) h
 value_plain (operand.Lettered letter last) n fits h =
     let f = both (is_visible letter) (nat_lt last 4294967296) fits in

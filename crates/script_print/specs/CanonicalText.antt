@@ -78,7 +78,7 @@ schedule_lines (s ∷ slots) = line.Schedule ∷ slots_lines (s ∷ slots)
 -- the lines that declare what a script holds, and all its lines
 abbrev pub declared_lines : Script → List SourceLine
 declared_lines s =
-    line.Header
+    line.Header s.version
     ∷ (setting_lines line.Pool s.pool
     ++ setting_lines line.Fast s.fast
     ++ map queue_line s.queues

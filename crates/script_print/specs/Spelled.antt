@@ -36,7 +36,6 @@ is_of _ _ = false
 abbrev pub value_in : (what : Operand) → Word → Value what
 value_in (operand.Number low high) (word.Number n) = n
 value_in (operand.Number low high) _ = 0
-value_in operand.Version _ = tt
 value_in operand.Code (word.Code n) = n
 value_in operand.Code _ = pos 0
 value_in (operand.Lettered letter last) (word.Register x) = x

@@ -9,7 +9,7 @@ ghost use Rattle.script_types.specs.declared.source_line.SourceLine.TheVariants 
 use crate::print_bodies::{put_dfcs, put_idfcs, put_irqs, put_queues};
 use crate::print_instr::put_instrs;
 use crate::print_slots::put_schedule;
-use crate::word::{Word, put, put_line};
+use crate::word::{Word, put_line};
 use script_types::{ProcessDecl, Script, ThreadDecl};
 use script_words::Keyword;
 use std::alloc::Global;
@@ -100,11 +100,18 @@ fn put_processes(
     Ok(())
 }
 
+/// Adds the line of the version.
+fn put_header(out: &mut Vec<u8>, version: u8) -> Result<(), NoMemory>
+    ensures { OnOk result (out.new.items ≡ out.old.items ++ source_text (line.Header version)) }
+{
+    put_line(out, Keyword::Eka2, &[Word::Number(u64::from(version))])
+}
+
 /// Adds the lines that declare what a script holds.
 fn put_declarations(out: &mut Vec<u8>, script: &Script) -> Result<(), NoMemory>
     ensures { OnOk result (out.new.items ≡ out.old.items ++ source_texts (declared_lines script.now)) }
 {
-    put(out, b"eka2 1\n")?;
+    put_header(out, script.version)?;
     put_pool(out, script.pool)?;
     put_fast(out, script.fast)?;
     put_queues(out, script.queues.as_slice())?;

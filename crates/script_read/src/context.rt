@@ -46,7 +46,7 @@ pub fn kind_of(line: &SourceLine) -> LineKind
     ensures { result ≡ kind_of line.now }
 {
     match line {
-        SourceLine::Header => LineKind::Header,
+        SourceLine::Header(_) => LineKind::Header,
         SourceLine::Pool(_) => LineKind::Pool,
         SourceLine::Fast(_) => LineKind::Fast,
         SourceLine::Queue(..) => LineKind::Queue,
@@ -122,7 +122,8 @@ fn tell(alloc: Global, script: &mut Script, line: SourceLine) -> Result<(), NoMe
     ensures { OnOk result (script.new ≡ told script.old line) }
 {
     match line {
-        SourceLine::Header | SourceLine::Schedule | SourceLine::End => {}
+        SourceLine::Schedule | SourceLine::End => {}
+        SourceLine::Header(version) => script.version = version,
         SourceLine::Pool(count) => script.pool = count,
         SourceLine::Fast(count) => script.fast = count,
         SourceLine::Queue(name, priority) => script.queues.push(QueueDecl { name, priority })?,

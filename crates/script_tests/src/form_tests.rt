@@ -11,7 +11,7 @@ use sym_base::NoMemory;
 /// Lines of each kind of operand with a number that is just past an end of its range.
 const PAST_THE_ENDS: [&str; 47] = [
     "eka2 0",
-    "eka2 2",
+    "eka2 3",
     "pool -1",
     "pool 256",
     "fast -1",

@@ -32,5 +32,17 @@ fn prints_a_script(rt: HostRuntime) -> Result<(), Fail> {
     assert!(rt; is_canonical(rt.alloc(), SPACED, CANONICAL));
     assert!(rt; is_canonical(rt.alloc(), CANONICAL, CANONICAL));
     assert!(rt; is_canonical(rt.alloc(), "eka2 1\nschedule\nend\n", "eka2 1\nend\n"));
+    assert!(rt; is_canonical(rt.alloc(), " eka2  2\nend", "eka2 2\nend\n"));
+    Ok(())
+}
+
+#[test]
+fn reads_each_version(rt: HostRuntime) -> Result<(), Fail> {
+    for (text, version) in [("eka2 1\nend\n", 1), ("eka2 2\nend\n", 2)] {
+        let ReadScript::Script(script) = read_script(rt.alloc(), text.as_bytes()) else {
+            return Err("a header is bad".into());
+        };
+        assert_eq!(rt; script.version, version);
+    }
     Ok(())
 }

@@ -210,7 +210,7 @@ thread_priority name p true h = let v = in_form (form_of (line.Thread name p tru
 thread_priority name p false h = let v = in_form (form_of (line.Thread name p false)) h in (number_in 0 63 p v.0.1.0).1
 
 pub sound-after : (file : List Declared) (c : Context) (l : SourceLine) → Stands file c l → IsSound c → IsSound (after c l)
-sound-after file c line.Header h s = record {
+sound-after file c (line.Header version) h s = record {
   processes = s.processes;
   count = s.count;
   threads = s.threads;

@@ -19,7 +19,7 @@ start = record { script = empty_script; rank = None; awaits_thread = false }
 
 -- the kind of a line
 abbrev pub kind_of : SourceLine → LineKind
-kind_of line.Header = of.Header
+kind_of (line.Header version) = of.Header
 kind_of (line.Pool count) = of.Pool
 kind_of (line.Fast count) = of.Fast
 kind_of (line.Queue name priority) = of.Queue
@@ -98,7 +98,7 @@ last_of (x ∷ xs) = length xs
 
 -- the script with one more line
 abbrev pub told : Script → SourceLine → Script
-told s line.Header = s
+told s (line.Header version) = record s { version = version }
 told s (line.Pool count) = record s { pool = count }
 told s (line.Fast count) = record s { fast = count }
 told s (line.Queue name priority) = record s { queues = s.queues ++ record { name = name; priority = priority } ∷ [] }

@@ -89,7 +89,7 @@ instr_operands word.Peek second = operand.Number 0 1023 ∷ []
 -- The operands behind a line's first word, and before a body. A thread's second form is `held`, and the second form
 -- of `irq`, behind `schedule`, is a slot.
 abbrev pub operands_of : Keyword → Bool → List Operand
-operands_of key.Eka2 second = operand.Version ∷ []
+operands_of key.Eka2 second = operand.Number 1 2 ∷ []
 operands_of key.Pool second = operand.Number 0 255 ∷ []
 operands_of key.Fast second = operand.Number 0 16 ∷ []
 operands_of key.Dfcq second = operand.Name ∷ priority ∷ []
@@ -174,7 +174,7 @@ abbrev pub line_with : (k : Keyword) → Values (operands_of k false) → Form
 line_with k values = record { keyword = k; second = false; values = values; body = [] }
 
 abbrev pub form_of : SourceLine → Form
-form_of line.Header = line_with key.Eka2 (tt, tt)
+form_of (line.Header version) = line_with key.Eka2 (version, tt)
 form_of (line.Pool n) = line_with key.Pool (n, tt)
 form_of (line.Fast n) = line_with key.Fast (n, tt)
 form_of (line.Queue name p) = line_with key.Dfcq (name, (p, tt))
@@ -247,7 +247,7 @@ instr_of word.Fill second values = instr.Fill values.0 values.1.0 values.1.1.0
 instr_of word.Peek second values = instr.Peek values.0
 
 abbrev pub line_of : (k : Keyword) (second : Bool) → Values (operands_of k second) → List Op → SourceLine
-line_of key.Eka2 second values ops = line.Header
+line_of key.Eka2 second values ops = line.Header values.0
 line_of key.Pool second values ops = line.Pool values.0
 line_of key.Fast second values ops = line.Fast values.0
 line_of key.Dfcq second values ops = line.Queue values.0 values.1.0

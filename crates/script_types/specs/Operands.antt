@@ -15,7 +15,6 @@ use Rattle.sym_base.specs.declared.kind.Slots.TheVariants as slots
 -- what an operand of each kind is. A word that is fixed is nothing further
 abbrev pub Value : Operand → Type 0
 Value (operand.Number low high) = ℕ
-Value operand.Version = Unit {0}
 Value operand.Code = ℤ
 Value (operand.Lettered letter last) = ℕ
 Value operand.Name = List ℕ
@@ -62,7 +61,6 @@ is_arg (arg.Descriptor offset length max) = is_size offset && is_size length && 
 -- whether an operand is in its range
 abbrev pub is_value : (what : Operand) → Value what → Bool
 is_value (operand.Number low high) n = nat_le low n && nat_le n high
-is_value operand.Version n = true
 is_value operand.Code n = is_code n
 is_value (operand.Lettered letter last) n = nat_le n last
 is_value operand.Name name = is_object_name name
@@ -100,7 +98,6 @@ arg_word (arg.Descriptor offset length max) = codes "d:" ++ decimal offset ++ co
 -- the word of an operand
 abbrev pub value_word : (what : Operand) → Value what → List ℕ
 value_word (operand.Number low high) n = decimal n
-value_word operand.Version n = codes "1"
 value_word operand.Code n = signed_decimal n
 value_word (operand.Lettered letter last) n = letter ∷ decimal n
 value_word operand.Name name = name

@@ -6,8 +6,6 @@
 pub enum Operand {
     /// A number from the first to the second, neither of which is negative.
     Number(u32, u32),
-    /// The version of a script: 1.
-    Version,
     /// A code: -2147483646 to 2147483647.
     Code,
     /// A letter, and a number from 0 on that is at most the second: `r0` to `r7` are registers.

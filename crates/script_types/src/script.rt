@@ -13,8 +13,8 @@ pub enum Slot {
     Tick,
 }
 
-/// A script: the version of its instructions, which is 1, the slots of the kernel's message pool, the number of fast mutexes, what it declares,
-/// in the order of its lines, and its schedule.
+/// A script: its version, which is 1 or 2, the slots of the kernel's message pool, the number of fast mutexes, what it declares, in
+/// the order of its lines, and its schedule. From version 2 on the kernel uses the numbers of swept objects again.
 #[derive(Drop)]
 pub struct Script {
     pub version: u8,

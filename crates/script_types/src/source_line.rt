@@ -6,8 +6,8 @@ use sym_base::Name;
 /// and which lines may follow one another aren't. The lines are this project's own.
 #[derive(Drop)]
 pub enum SourceLine {
-    /// `eka2 1`: the first line of a script.
-    Header,
+    /// `eka2 V`: the first line of a script, whose version is 1 or 2.
+    Header(u8),
     /// `pool N`: the slots of the kernel's message pool, 0 to 255.
     Pool(u8),
     /// `fast N`: the number of fast mutexes, 0 to 16.

@@ -135,7 +135,7 @@ form_back (line.KernelThread name p true) = refl
 form_back (line.KernelThread name p false) = refl
 form_back (line.Thread name p true) = refl
 form_back (line.Thread name p false) = refl
-form_back line.Header = refl
+form_back (line.Header version) = refl
 form_back _ = refl
 
 -- words that have their forms and ranges

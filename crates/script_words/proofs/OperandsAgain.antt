@@ -74,17 +74,6 @@ number_again low high n fits h =
     let a = natural_again low high n fits (leb-true low n parts.0) (leb-true n high parts.1) in
     record { form = number_is_signed (decimal n) (natural_is_number low high (decimal n) a.0); range = a.0; value = a.1 }
 
-version_taken : (word : List ℕ) → is_natural 1 1 word ≡ true → Taken operand.Version word
-version_taken word h =
-    let t = natural_takes 1 1 word (omega arith) h in
-    let is : natural word ≡ 1 = omega (arith, t.1, t.2) in
-    record { same = t.0 ∙ ap decimal is ∙ decimal_digit 1 (omega arith); range = refl }
-
-version_word : is_natural 1 1 (codes "1") ≡ true
-version_word =
-    let a = natural_again 1 1 1 (omega arith) (omega arith) (omega arith) in
-    subst (λ (w : List ℕ). is_natural 1 1 w ≡ true) (decimal_digit 1 (omega arith)) a.0
-
 -- numbers with a sign
 negative_word : (n : ℕ) → 1 ≤ n → signed_decimal (neg_ℤ (pos n)) ≡ 45 ∷ decimal n
 negative_word zero some = absurd (omega arith)
@@ -312,7 +301,6 @@ arg_again (arg.Descriptor x y z) h =
 -- all kinds
 pub taken : (what : Operand) (word : List ℕ) → is_small what ≡ true → has_form what word ≡ true → is_in_range what word ≡ true → Taken what word
 taken (operand.Number low high) word fits form range = number_taken low high word (small high fits) range
-taken operand.Version word fits form range = version_taken word range
 taken operand.Code word fits form range =
     let t = signed_taken 2147483645 2147483647 word (omega arith) (omega arith) range in
     record { same = t.same; range = t.range }
@@ -330,11 +318,6 @@ taken operand.Argument word fits form range = let t = arg_by word (colon_parts w
 
 pub again : (what : Operand) (value : Value what) → is_small what ≡ true → is_value what value ≡ true → Again what value
 again (operand.Number low high) n fits h = let a = number_again low high n (small high fits) h in record { form = a.form; range = a.range; value = a.value }
-again operand.Version n fits h = record {
-  form = number_is_signed (codes "1") (natural_is_number 1 1 (codes "1") version_word);
-  range = version_word;
-  value = refl;
-}
 again operand.Code z fits h =
     let a = signed_again 2147483645 2147483647 z (omega arith) (omega arith) h in
     record { form = a.form; range = a.range; value = a.value }

@@ -49,7 +49,6 @@ right_of false b e h = h
 -- a word of each sign
 sign_known : (s : Operand) (word : List ℕ) → has_form s word ≡ true → is_in_range s word ≡ true → IsOf s word
 sign_known (operand.Number low high) word form range = natural_known low high word range
-sign_known operand.Version word form range = tt
 sign_known operand.Code word form range = code_known word range
 sign_known (operand.Lettered letter last) word form range = natural_known 0 last (drop 1 word) range
 sign_known operand.Name word form range = record { text = object_name_is_name word form }

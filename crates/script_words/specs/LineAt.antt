@@ -45,7 +45,6 @@ arg_of parts = arg.Number (signed_value (word_at parts 0))
 -- the operand that a word is, and the operands that words are from a place on
 abbrev pub value_of : (what : Operand) → List ℕ → Value what
 value_of (operand.Number low high) word = natural word
-value_of operand.Version word = tt
 value_of operand.Code word = signed_value word
 value_of (operand.Lettered letter last) word = lettered_value word
 value_of operand.Name word = word

@@ -61,7 +61,6 @@ are_arg_parts number size _ = false
 -- whether a word has the form of an operand
 abbrev pub has_form : Operand → List ℕ → Bool
 has_form (operand.Number low high) word = is_signed word
-has_form operand.Version word = is_signed word
 has_form operand.Code word = is_signed word
 has_form (operand.Lettered letter last) word = is_lettered letter word
 has_form operand.Name word = is_object_name word
@@ -78,7 +77,6 @@ has_form operand.Held word = bytes_eq word (codes "held")
 -- whether the numbers of a word that has the form are in the operand's range
 abbrev pub is_in_range : Operand → List ℕ → Bool
 is_in_range (operand.Number low high) word = is_natural low high word
-is_in_range operand.Version word = is_natural 1 1 word
 is_in_range operand.Code word = is_code_word word
 is_in_range (operand.Lettered letter last) word = is_lettered_within last word
 is_in_range operand.Slots word = bytes_eq word (codes "pool") || is_natural 1 255 word

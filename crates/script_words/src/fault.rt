@@ -129,7 +129,6 @@ pub fn word_fault(operand: Operand, word: &[u8]) -> Option<Fault>
 {
     match operand {
         Operand::Number(low, high) => number_fault(low, high, word),
-        Operand::Version => number_fault(1, 1, word),
         Operand::Code => signed_fault(2_147_483_646, 2_147_483_647, word),
         Operand::Lettered(letter, last) => lettered_fault(letter, last, word),
         Operand::Slots => slots_fault(word),

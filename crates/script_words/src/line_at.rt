@@ -81,7 +81,7 @@ fn tested_line(
 {
     match keyword {
         Keyword::Instr(word) => Ok(SourceLine::Instr(instruction_at(word, second, words))),
-        Keyword::Eka2 => Ok(SourceLine::Header),
+        Keyword::Eka2 => Ok(SourceLine::Header(small_at(words, 1, 2))),
         Keyword::Pool => Ok(SourceLine::Pool(small_at(words, 1, 255))),
         Keyword::Fast => Ok(SourceLine::Fast(small_at(words, 1, 16))),
         Keyword::Dfcq => Ok(SourceLine::Queue(name_at(words, 1), small_at(words, 2, 63))),

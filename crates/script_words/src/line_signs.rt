@@ -31,7 +31,7 @@ pub fn operands_of(keyword: Keyword, second: bool) -> &'static [Operand]
 {
     match keyword {
         Keyword::Instr(word) => instr_operands(word, second),
-        Keyword::Eka2 => &[Operand::Version],
+        Keyword::Eka2 => &[Operand::Number(1, 2)],
         Keyword::Pool => &[Operand::Number(0, 255)],
         Keyword::Fast => &[Operand::Number(0, 16)],
         Keyword::Dfcq => &[NAME, PRIORITY],

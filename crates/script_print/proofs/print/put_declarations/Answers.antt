@@ -7,10 +7,10 @@ use Rattle.script_print.proofs.print.put_declarations.Goals as goal
 
 pub returns : goal.returns
 returns c =
-    declared_by c.args.script.now c.args.out.now.items c.put.new.out.items c.put_pool.new.out.items
+    declared_by c.args.script.now c.args.out.now.items c.put_header.new.out.items c.put_pool.new.out.items
     c.put_fast.new.out.items c.put_queues.new.out.items c.put_dfcs.new.out.items c.put_idfcs.new.out.items
     c.put_irqs.new.out.items c.put_threads.new.out.items c.put_processes.new.out.items
-    c.in_ok-put.ensures c.in_ok-put_pool.ensures c.in_ok-put_fast.ensures
+    c.in_ok-put_header.ensures c.in_ok-put_pool.ensures c.in_ok-put_fast.ensures
     (c.in_ok-put_queues.ensures ∙ ap (λ xs. c.put_fast.new.out.items ++ source_texts (map queue_line xs)) c.as_slice.ensures)
     (c.in_ok-put_dfcs.ensures ∙ ap (λ xs. c.put_queues.new.out.items ++ source_texts (map dfc_line xs)) c.as_slice-2.ensures)
     (c.in_ok-put_idfcs.ensures ∙ ap (λ xs. c.put_dfcs.new.out.items ++ source_texts (map idfc_line xs)) c.as_slice-3.ensures)
