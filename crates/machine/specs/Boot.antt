@@ -1,7 +1,7 @@
 -- The state at boot. Object 0 is process `kernel`, object 1 thread `supervisor`, and then each process
 -- comes with its threads behind it, in the script's order; the kernel threads, which belong to process `kernel`, stand
 -- before the first of these, and before them the threads of queues, which belong to it too.
-use Rattle.std.specs.Prelude.{ℕ, ◌+◌, ◌==◌, not, Bool, true, false, if◌then◌else◌, codes, map, List, [], ◌∷◌, ◌++◌, length, Option, Some, None, replicate}
+use Rattle.std.specs.Prelude.{ℕ, ◌+◌, ◌==◌, nat_lt, not, Bool, true, false, if◌then◌else◌, codes, map, List, [], ◌∷◌, ◌++◌, length, Option, Some, None, replicate}
 use Rattle.sym_base.specs.declared.kind.Kind.{Kind}
 use Rattle.sym_base.specs.declared.kind.Kind.TheVariants.{Process, Thread}
 use Rattle.script_types.specs.declared.script.Script.{Script}
@@ -27,9 +27,9 @@ use Rattle.machine.specs.declared.state.State.{State}
 use Rattle.machine.specs.declared.boot.Born.{Born}
 use Rattle.state_rows.specs.HandleSlots.{fresh_slot}
 
--- an object that stands at boot
+-- an object that stands at boot; its place is its number (`objects_from`)
 abbrev pub boot_object : Kind → List ℕ → ObjectRow
-boot_object kind name = record { kind = kind; name = name; dead = false }
+boot_object kind name = record { kind = kind; name = name; dead = false; place = 0 }
 
 -- a process
 abbrev pub born_process : List ℕ → Born
@@ -83,6 +83,11 @@ born_kernel script =
 abbrev pub born : Script → List Born
 born script = born_kernel script ++ born_processes script.threads 0 (length (born_kernel script)) script.processes
 
+-- the objects of all that stands at boot, from a number on, each with its number as its place
+abbrev pub objects_from : ℕ → List Born → List (Option ObjectRow)
+objects_from n [] = []
+objects_from n (b ∷ bs) = Some (record b.object { place = n }) ∷ objects_from (n + 1) bs
+
 -- the threads that are declared and aren't held are ready, in order of number
 abbrev pub ready_from : ℕ → List Born → List ObjNo
 ready_from n [] = []
@@ -106,11 +111,12 @@ memory_of b = memory_of_row b.thread
 
 -- each has an empty table and owes and holds nothing, no device has a request, nobody waits for a lock, and there is no server and no
 -- message
-unfoldable pub boot_of : ℕ → ℕ → DeferredRows → List Born → State
-boot_of pool fast calls bs = record {
-  mode = record { shared = false; keep = false };
+unfoldable pub boot_of : Bool → ℕ → ℕ → DeferredRows → List Born → State
+boot_of reuse pool fast calls bs = record {
+  mode = record { shared = false; keep = false; reuse = reuse };
   references = record {
-    objects = map (λ b. Some b.object) bs;
+    objects = objects_from 0 bs;
+    made = length bs;
     handles = map (λ _. replicate HANDLES fresh_slot) bs;
     threads = map (λ b. b.thread) bs;
     owed = map (λ _. []) bs;
@@ -133,9 +139,15 @@ boot_of pool fast calls bs = record {
   };
 }
 
+-- whether the kernel of a script of a version uses the numbers of swept objects again: from version 2 on
+abbrev pub uses_again : ℕ → Bool
+uses_again version = nat_lt 1 version
+
 -- the state at boot, where callers share the kernel or don't
 abbrev pub boot_in : Bool → Script → State
-boot_in shared script = record (boot_of script.pool script.fast (calls_of script) (born script)) { mode = record { shared = shared; keep = false } }
+boot_in shared script = record (boot_of (uses_again script.version) script.pool script.fast (calls_of script) (born script)) {
+  mode = record { shared = shared; keep = false; reuse = uses_again script.version };
+}
 
 abbrev pub boot : Script → State
 boot script = boot_in false script

@@ -1,6 +1,6 @@
 -- The first two steps of the instructions that find an object by its kind and name: the find, and the return,
 -- which opens what was found. The object may die in between.
-use Rattle.std.specs.Prelude.{ℕ, nat_lt, ◌||◌, Bool, true, false, not, if◌then◌else◌, List, [], ◌∷◌, Option, Some, None}
+use Rattle.std.specs.Prelude.{ℕ, nat_lt, ◌==◌, ◌&&◌, ◌||◌, Bool, true, false, not, if◌then◌else◌, List, [], ◌∷◌, Option, Some, None}
 use Rattle.sym_base.specs.declared.error.Error.TheVariants.{NotFound}
 use Rattle.sym_base.specs.declared.kind.Kind.{Kind}
 use Rattle.sym_base.specs.declared.number.ObjNo.{ObjNo}
@@ -39,10 +39,10 @@ seek_object t word (Some o) = one_move (Of word Seek) (Find t o)
 abbrev pub seek : State → ObjNo → Word → Kind → List ℕ → Decision
 seek S t word kind name = seek_object t word (find_object S kind name)
 
--- whether an object may be opened: it is there and isn't dead
-abbrev pub is_open : Option ObjectRow → Bool
-is_open None = false
-is_open (Some row) = not row.dead
+-- whether the object of a place may be opened: it is there and isn't dead. At its number another object may stand since
+abbrev pub is_open : ℕ → Option ObjectRow → Bool
+is_open place None = false
+is_open place (Some row) = not row.dead && row.place == place
 
 -- the object died: it is missed, and isn't found; else the thread uses it from now on, and another step comes. A doomed thread
 -- comes back without an answer
@@ -52,5 +52,5 @@ miss t word o false = one_move (Of word Return) (Miss t o)
 
 abbrev pub return_to : State → ObjNo → ThreadRow → Word → Part → Decision
 return_to S t row word part =
-    if is_open (object_of S (found_object row)) then one_move (Of word Return) (Open t (found_object row) part)
+    if is_open row.sought (object_of S (found_object row)) then one_move (Of word Return) (Open t (found_object row) part)
     else miss t word (found_object row) (is_live row.stage)

@@ -4,7 +4,7 @@ use Rattle.sym_base.specs.declared.limits.TheConstants.Limits.{OBJECTS}
 use Rattle.sym_base.specs.declared.number.ObjNo.{ObjNo}
 use Rattle.sym_base.specs.declared.kind.Kind.{Kind}
 use Rattle.script_types.specs.declared.script.Script.{Script}
-use Rattle.state_rows.specs.ObjectRows.{is_session, is_taken}
+use Rattle.state_rows.specs.ObjectRows.{is_session, is_taken, place_of}
 use Rattle.entry_log.specs.declared.effect.Holder.{Holder}
 use Rattle.entry_log.specs.declared.effect.Holder.TheVariants.{InProcess, InThread, Temp, Own, Link}
 use Rattle.entry_log.specs.declared.step.Part.{Part}
@@ -36,7 +36,7 @@ use Rattle.machine.specs.References.{count_of, total}
 use Rattle.machine.specs.Holdings.{left_of, process_handles}
 use Rattle.machine.specs.Moves.{next_object, moved, tell}
 use Rattle.machine.specs.FitsCopies.{FitsCopies}
-use Rattle.machine.specs.FitsServers.{MaySend, IsUncalled, FitsServers, FitsMessages, HasSlot}
+use Rattle.machine.specs.FitsServers.{IsUncalled, FitsServers, FitsMessages, HasSlot}
 use Rattle.machine.specs.Serving.{times_owned, times_sent, begun}
 use Rattle.machine.specs.ServerMoves.{owned_by}
 use Rattle.machine.specs.declared.server_move.ServerMove.{ServerMove}
@@ -135,7 +135,7 @@ pub record MayGoOn (S : State) (t : ObjNo) (part : Option Part) : Type 0 where
 -- a thread that may find an object: it is at an instruction, isn't cleaned, uses, owes and holds nothing, and isn't between another find and
 -- its return
 pub record MayFind (script : Script) (S : State) (t o : ObjNo) : Type 0 where
-  pub object : o.0 < length S.references.objects
+  pub object : is_some (object_of S o) ≡ true
   pub row : ThreadRow
   pub is : thread_of S t ≡ Some row
   pub at : row.next_instruction < length (instructions_of script row.role)
@@ -153,15 +153,16 @@ pub record ComesBack (S : State) (t o : ObjNo) : Type 0 where
   pub returns : is_returning row.part ≡ true
   pub found : found_object row ≡ o
 
--- it opens an object that is alive, and goes on to a step in which it uses that; or misses one that isn't
+-- it opens an object that is alive and has the place which it found, and goes on to a step in which it uses that; or misses one that isn't so
 pub record MayOpen (S : State) (t o : ObjNo) (part : Option Part) : Type 0 where
   pub back : ComesBack S t o
   pub alive : IsAlive (object_of S o)
+  pub same : place_of (object_of S o) ≡ back.row.sought
   pub later : is_before_use part ≡ false
-  pub sends : MaySend part S
 
-abbrev pub MayMiss : State → ObjNo → ObjNo → Type 0
-MayMiss S t o = ComesBack S t o × (IsAlive (object_of S o) → ⊥)
+pub record MayMiss (S : State) (t o : ObjNo) : Type 0 where
+  pub back : ComesBack S t o
+  pub over : IsAlive (object_of S o) → place_of (object_of S o) ≡ back.row.sought → ⊥
 
 -- an object may be made of this kind and name: there is room, and its name isn't taken
 pub record MayMake (S : State) (kind : Kind) (name : List ℕ) : Type 0 where
@@ -242,7 +243,7 @@ WaitsNowhere S u = (o : ObjNo) → is_among u (waiters_at S.synchronization.lock
 
 -- an object that may become a semaphore with this count: nobody owns it or waits for it
 pub record MayStart (S : State) (o : ObjNo) (count : ℕ) : Type 0 where
-  pub object : o.0 < length S.references.objects
+  pub object : IsAlive (object_of S o)
   pub few : count ≤ 2147483647
   pub free : owner_at S.synchronization.locks o ≡ None
   pub alone : waiters_at S.synchronization.locks o ≡ []
@@ -267,7 +268,7 @@ pub record MayLock (S : State) (o t : ObjNo) (locked : Locked) : Type 0 where
 -- a thread that may unlock an object, with the answer that owner and waiters give: it stands among no waiters, and isn't
 -- between a find and its return
 pub record MayUnlock (S : State) (o t : ObjNo) (unlocked : Unlocked) : Type 0 where
-  pub object : o.0 < length S.references.objects
+  pub object : IsAlive (object_of S o)
   pub thread : is_some (thread_of S t) ≡ true
   pub nowhere : WaitsNowhere S t
   pub going : IsBack S t
@@ -276,7 +277,7 @@ pub record MayUnlock (S : State) (o t : ObjNo) (unlocked : Unlocked) : Type 0 wh
 -- a thread that may give a mutex up with all its levels, to this waiter where there is one: it owns it, stands among no waiters, and isn't
 -- between a find and its return
 pub record MayFree (S : State) (o t : ObjNo) (best : Option ObjNo) : Type 0 where
-  pub object : o.0 < length S.references.objects
+  pub object : IsAlive (object_of S o)
   pub thread : is_some (thread_of S t) ≡ true
   pub nowhere : WaitsNowhere S t
   pub going : IsBack S t
@@ -290,7 +291,7 @@ pub record MayWaitOn (S : State) (o t : ObjNo) : Type 0 where
 
 -- an object that may be signalled, with the answer that waiters and count give
 pub record MaySignal (S : State) (o : ObjNo) (signalled : Signalled) : Type 0 where
-  pub object : o.0 < length S.references.objects
+  pub object : IsAlive (object_of S o)
   pub answer : signalled ≡ signal_answer (best_waiter (priority_of S) S.synchronization.locks o) (count_at S.synchronization.locks o)
 
 -- A move in the rows of mutexes and semaphores, in an action of thread t, fits the state: its answer is the one that they
@@ -357,7 +358,7 @@ FitsMove script t (Lose h o) S = IsBack S t × Holds S h o × IsOwn t h
 FitsMove script t (Find u o) S = MayFind script S u o × (u ≡ t)
 FitsMove script t (Open u o part) S = MayOpen S u o (Some part) × (u ≡ t)
 FitsMove script t (Miss u o) S = MayMiss S u o × (u ≡ t)
-FitsMove script t (GoOn u part) S = MayGoOn S u (Some part) × MaySend (Some part) S × (u ≡ t)
+FitsMove script t (GoOn u part) S = MayGoOn S u (Some part) × (u ≡ t)
 FitsMove script t (Keep u number) S = IsBack S u × (u ≡ t)
 FitsMove script t (Write u x value) S = x < 8
 FitsMove script t (WriteMessage u y number) S = y < 8

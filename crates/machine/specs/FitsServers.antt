@@ -1,9 +1,7 @@
 -- When a move in the rows of servers, sessions and messages fits the state.
-use Rattle.std.specs.Prelude.{◌≡◌, ◌≢◌, ◌*◌, ◌<◌, ◌≤◌, ◌&&◌, true, false, is_some, length, [], Option, Some, None, IsSome}
+use Rattle.std.specs.Prelude.{◌≡◌, ◌≢◌, ◌*◌, ◌<◌, ◌≤◌, ◌&&◌, true, false, is_some, length, [], Some, None, IsSome}
 use Rattle.sym_base.specs.declared.limits.TheConstants.Limits.{OBJECTS, THREADS, THREAD_INSTRUCTIONS}
 use Rattle.sym_base.specs.declared.number.ObjNo.{ObjNo}
-use Rattle.entry_log.specs.declared.step.Part.{Part}
-use Rattle.entry_log.specs.declared.step.Part.TheVariants as part
 use Rattle.state_rows.specs.declared.messages.MsgRow.{MsgRow}
 use Rattle.state_rows.specs.declared.messages.Way.{Way}
 use Rattle.state_rows.specs.declared.messages.Way.TheVariants.{Async, Sync, Disconnect}
@@ -11,7 +9,7 @@ use Rattle.state_rows.specs.declared.thread.Stage.TheVariants.{Live}
 use Rattle.state_rows.specs.declared.thread.Waiting.TheVariants as waiting
 use Rattle.state_rows.specs.declared.thread.ThreadRow.{ThreadRow}
 use Rattle.state_rows.specs.MessageRows.{message_of, messages_at, is_async, is_full}
-use Rattle.state_rows.specs.ServerRows.{IsServer, IsSession, session_at, linked_at, is_closing}
+use Rattle.state_rows.specs.ServerRows.{IsServer, IsSession, session_at, linked_at, is_closing, is_to_open}
 use Rattle.state_rows.specs.ServerChanges.{IsAlone}
 use Rattle.machine.specs.declared.message_move.MessageMove.{MessageMove}
 use Rattle.machine.specs.declared.message_move.MessageMove.TheVariants.{Accept, Take, Finish}
@@ -19,22 +17,18 @@ use Rattle.machine.specs.declared.server_move.ServerMove.{ServerMove}
 use Rattle.machine.specs.declared.server_move.ServerMove.TheVariants.{Start, Join, Close, CloseAll, SetOpen, End}
 use Rattle.machine.specs.declared.state.State.{State}
 use Rattle.machine.specs.Moves.{next_object}
-use Rattle.machine.specs.References.{count_of, total, owed_names, server_names}
-use Rattle.machine.specs.Rows.{thread_of}
-use Rattle.machine.specs.Serving.{times_sent, times_called, sessions_used, sessions_there, numbers_used}
-use Rattle.machine.specs.WellFormed.{IsLiveThread, IsUntold}
+use Rattle.machine.specs.References.{count_of, total, owed_names, server_names, thread_names}
+use Rattle.machine.specs.Rows.{object_of, thread_of}
+use Rattle.machine.specs.Serving.{times_sent, times_called, times_closed, numbers_used}
+use Rattle.machine.specs.WellFormed.{IsAlive, IsLiveThread, IsUntold}
 
--- a further session may be disconnected, open or about to be
-abbrev pub HasSpare : State → Type 0
-HasSpare S = sessions_used S.references.threads S.serving.servers S.serving.messages.outstanding < sessions_there S.serving.servers
+-- a session is closed, and no outstanding message tells its server so
+abbrev pub IsClosed : State → ObjNo → Type 0
+IsClosed S s = times_closed S.serving.servers S.serving.messages.outstanding s ≡ 0
 
 -- a further message may be accepted, or a further session opened that a message disconnects
 abbrev pub HasNumber : State → Type 0
 HasNumber S = numbers_used S.references.threads S.serving.servers S.serving.messages < 2 * THREAD_INSTRUCTIONS * THREADS
-
-abbrev pub MaySend : Option Part → State → Type 0
-MaySend (Some part.Send) S = HasSpare S
-MaySend _ S = Unit {0}
 
 -- a thread awaits no end of a message, unless it is dead
 abbrev pub IsUncalled : State → ObjNo → Type 0
@@ -46,11 +40,12 @@ pub record MayStartServer (S : State) (o u : ObjNo) : Type 0 where
   pub room : (next_object S).0 < OBJECTS
   pub owner : IsLiveThread S.references.threads u
 
--- an object that may become a session at a server: it was made, after all threads, is no session yet, and no server, session, message or duty
+-- an object that may become a session at a server: it is alive, no thread, no session yet, and no thread, server, session, message or duty
 -- refers to it; and the server is another object, is referred to and isn't closing
 pub record MayJoinServer (S : State) (s o : ObjNo) : Type 0 where
-  pub made : s.0 < length S.references.objects
-  pub later : length S.references.threads ≤ s.0
+  pub alive : IsAlive (object_of S s)
+  pub thread : thread_of S s ≡ None
+  pub unlinked : total (thread_names s) S.references.threads ≡ 0
   pub other : s.0 ≢ o.0
   pub fresh : session_at S.serving.servers s ≡ None
   pub alone : IsAlone S.serving.servers s
@@ -72,16 +67,16 @@ FitsServers (Start o u) S = MayStartServer S o u
 FitsServers (Join s o slots u) S = MayJoinServer S s o
 FitsServers (Close o) S = IsServer S.serving.servers o
 FitsServers (CloseAll u) S = Unit {0}
-FitsServers (SetOpen s true) S = IsSession S.serving.servers s × HasSpare S × HasNumber S
+FitsServers (SetOpen s true) S = (is_to_open (session_at S.serving.servers s) ≡ true) × HasNumber S
 FitsServers (SetOpen s false) S = IsSession S.serving.servers s
 FitsServers (End o) S = MayEnd S o
 
--- how a message may be sent: with a status that is awaited and that nothing else has; with a wait for its end, and for no other's; or while a
--- session may be disconnected
-abbrev pub FitsWay : ObjNo → Way → State → Type 0
-FitsWay u (Async s) S = IsUntold S.synchronization.requests S.synchronization.logons u s × (times_sent S.serving.messages.outstanding u s ≡ 0)
-FitsWay u Sync S = (times_called S.serving.messages.outstanding u ≡ 0) × ((row : ThreadRow) → thread_of S u ≡ Some row → row.waiting ≡ waiting.Reply)
-FitsWay u Disconnect S = HasSpare S
+-- how a message may be sent over a session: with a status that is awaited and that nothing else has; with a wait for its end, and for no other's; or as
+-- the session is closed
+abbrev pub FitsWay : ObjNo → ObjNo → Way → State → Type 0
+FitsWay u session (Async s) S = IsUntold S.synchronization.requests S.synchronization.logons u s × (times_sent S.serving.messages.outstanding u s ≡ 0)
+FitsWay u session Sync S = (times_called S.serving.messages.outstanding u ≡ 0) × ((row : ThreadRow) → thread_of S u ≡ Some row → row.waiting ≡ waiting.Reply)
+FitsWay u session Disconnect S = IsClosed S session
 
 -- a message that may be accepted: something refers to its session and its client, they are a session and a thread, its server is an object, and a number
 -- is left for it
@@ -93,7 +88,7 @@ pub record MayAccept (S : State) (row : MsgRow) : Type 0 where
   pub server : row.server.0 < OBJECTS
   pub args : length row.args ≡ 4
   pub untaken : row.taken ≡ false
-  pub way : FitsWay row.client row.way S
+  pub way : FitsWay row.client row.session row.way S
   pub number : HasNumber S
 
 -- a move in the rows of messages fits the state: who is finished is outstanding

@@ -13,7 +13,7 @@ use Rattle.state_rows.specs.declared.servers.SessionRow.{SessionRow}
 use Rattle.state_rows.specs.declared.thread.Waiting.{Waiting}
 use Rattle.state_rows.specs.declared.thread.Waiting.TheVariants.{Receive}
 use Rattle.state_rows.specs.declared.thread.ThreadRow.{ThreadRow}
-use Rattle.state_rows.specs.ServerRows.{owner_of, session_at, server_of, accepts}
+use Rattle.state_rows.specs.ServerRows.{owner_of, session_at, server_of, accepts, is_to_open}
 use Rattle.state_rows.specs.MessageChanges.{new_row}
 use Rattle.machine.specs.declared.message_move.MessageMove.TheVariants.{Accept, Finish}
 use Rattle.machine.specs.declared.moves.Move.{Move}
@@ -46,6 +46,10 @@ slots_of S s = slots_of_row (session_at S.serving.servers s)
 -- the server that accepts messages of a session: the one that the session is linked to, unless it is closing
 abbrev pub open_server : State → ObjNo → Option ObjNo
 open_server S s = if accepts S.serving.servers (server_of S.serving.servers s) then server_of S.serving.servers s else None
+
+-- the same of a session that is to be opened
+abbrev pub server_to_open : State → ObjNo → Option ObjNo
+server_to_open S s = if is_to_open (session_at S.serving.servers s) then open_server S s else None
 
 -- a thread that waits for a message of this server waits no longer
 abbrev pub is_receiving : ObjNo → Waiting → Bool

@@ -1,6 +1,6 @@
 -- What each move changes in the rows, and what it tells. The ready list isn't among the rows here: it follows
 -- the moves apart.
-use Rattle.std.specs.Prelude.{ℕ, ◌+◌, ◌==◌, Bool, if◌then◌else◌, List, [], ◌∷◌, ◌++◌, length, Option, Some, None, false, slice_set}
+use Rattle.std.specs.Prelude.{ℕ, ◌+◌, ◌==◌, Bool, if◌then◌else◌, List, [], ◌∷◌, ◌++◌, Option, Some, None, false, slice_set}
 use Rattle.std.specs.List.{slice_index_or}
 use Rattle.sym_base.specs.declared.limits.TheConstants.Limits.{OBJECTS}
 use Rattle.sym_base.specs.declared.number.ObjNo.{ObjNo}
@@ -14,7 +14,9 @@ use Rattle.entry_log.specs.declared.step.Part.TheVariants.{Return}
 use Rattle.state_rows.specs.declared.duty.Owed.{Owed}
 use Rattle.state_rows.specs.declared.duty.Owed.TheVariants.{Close, Sweep}
 use Rattle.state_rows.specs.declared.object.ObjectRow.{ObjectRow}
-use Rattle.state_rows.specs.ObjectRows.{dead_row}
+use Rattle.state_rows.specs.LockChanges.{after_sweep as locks_swept}
+use Rattle.state_rows.specs.ObjectRows.{dead_row, next_number, place_of, with_object}
+use Rattle.state_rows.specs.ServerChanges.{after_sweep as servers_swept}
 use Rattle.machine.specs.declared.moves.Move.{Move}
 use Rattle.machine.specs.declared.moves.Move.TheVariants.{Make, Gain, Lose, Find, Open, Miss, GoOn, Write, Advance, Wait, Wake, SetPriority, Nano, Keep, WriteMessage, PutDown, Deferred, Requests, Locks, Logons, Death, Servers, Messages, Fill, Copies, Pay}
 use Rattle.state_rows.specs.declared.thread.Waiting.{Waiting}
@@ -22,7 +24,7 @@ use Rattle.state_rows.specs.declared.thread.Waiting.TheVariants as waiting
 use Rattle.state_rows.specs.declared.handle_slot.HandleSlot.{HandleSlot}
 use Rattle.state_rows.specs.declared.thread.ThreadRow.{ThreadRow}
 use Rattle.machine.specs.declared.state.State.{State}
-use Rattle.machine.specs.Rows.{thread_of, with_row, owing, without_first}
+use Rattle.machine.specs.Rows.{object_of, thread_of, with_row, owing, without_first}
 use Rattle.machine.specs.Handles.{with_slot, taken_slot, freed_slot}
 use Rattle.machine.specs.Kept.{dies}
 use Rattle.machine.specs.NanoMoves.{nano_moved, nano_told}
@@ -37,17 +39,17 @@ use Rattle.machine.specs.ServerMoves.{servers_moved, server_told, owned_gain, ow
 use Rattle.machine.specs.MessageMoves.{messages_moved, message_told, message_owed}
 use Rattle.state_rows.specs.ServerRows.{server_of}
 
--- the number that a new object gets, which is fresh (`Fresh`)
+-- the number that a new object gets, which is fresh (`Fresh`): that of a swept object where numbers are used again
 abbrev pub next_object : State → ObjNo
-next_object S = record { 0 = length S.references.objects }
+next_object S = record { 0 = next_number S.mode.reuse S.references.objects }
 
 -- whether no number is left for a new object
 abbrev pub no_number_left : State → Bool
 no_number_left S = (next_object S).0 == OBJECTS
 
--- an object that is made
-abbrev pub new_object : Kind → List ℕ → ObjectRow
-new_object kind name = record { kind = kind; name = name; dead = false }
+-- an object that is made, with its place
+abbrev pub new_object : Kind → List ℕ → ℕ → ObjectRow
+new_object kind name place = record { kind = kind; name = name; dead = false; place = place }
 
 -- a thread's row with another use, without its link, with what it found and comes back for, with what it opened, with what it missed,
 -- with a number that it found, with another next step, with a value in a register, with the number of a message in one, at its next
@@ -58,8 +60,8 @@ with_use uses row = record row { uses = uses }
 abbrev pub unlinked : ThreadRow → ThreadRow
 unlinked row = record row { link = None }
 
-abbrev pub with_found : ObjNo → ThreadRow → ThreadRow
-with_found o row = record row { found = o.0; part = Some Return }
+abbrev pub with_found : ObjNo → ℕ → ThreadRow → ThreadRow
+with_found o place row = record row { found = o.0; sought = place; part = Some Return }
 
 abbrev pub with_opened : ObjNo → Part → ThreadRow → ThreadRow
 with_opened o part row = record row { uses = Some o; part = Some part }
@@ -156,7 +158,8 @@ use_of S t = use_of_row (thread_of S t)
 abbrev pub moved : ObjNo → Move → State → State
 moved t (Make kind name h) S = record S {
   references = record S.references {
-    objects = S.references.objects ++ Some (new_object kind name) ∷ [];
+    objects = with_object S.references.objects (next_object S).0 (new_object kind name S.references.made);
+    made = S.references.made + 1;
     handles = tables_gain h (next_object S) S.references.handles;
     threads = threads_gain h (next_object S) S.references.threads;
   };
@@ -180,7 +183,7 @@ moved t (Lose h o) S = record S {
     owned = owned_lose h o S.serving.owned;
   };
 }
-moved t (Find u o) S = record S { references = record S.references { threads = with_row S.references.threads u (with_found o) } }
+moved t (Find u o) S = record S { references = record S.references { threads = with_row S.references.threads u (with_found o (place_of (object_of S o))) } }
 moved t (Open u o part) S = record S { references = record S.references { threads = with_row S.references.threads u (with_opened o part) } }
 moved t (Miss u o) S = record S { references = record S.references { threads = with_row S.references.threads u with_missed } }
 moved t (GoOn u part) S = record S { references = record S.references { threads = with_row S.references.threads u (with_part part) } }
@@ -245,6 +248,8 @@ moved t (Pay (Sweep o)) S = record S {
     threads = slice_set S.references.threads o.0 None;
     owed = without_first S.references.owed t;
   };
+  synchronization = record S.synchronization { locks = locks_swept S.synchronization.locks o };
+  serving = record S.serving { servers = servers_swept S.serving.servers o };
 }
 
 -- what a move tells, from the state before it

@@ -1,13 +1,14 @@
 -- Who is out. A thread that found an object by its name comes back next, to open it. Where callers share the kernel it is out
 -- meanwhile, and comes back at any later place; that is read off its row.
-use Rattle.std.specs.Prelude.{ℕ, ◌%◌, ◌&&◌, Bool, true, false, if◌then◌else◌, Option, Some, None}
+use Rattle.std.specs.Prelude.{ℕ, ◌%◌, ◌==◌, ◌&&◌, Bool, true, false, if◌then◌else◌, Option, Some, None}
 use Rattle.sym_base.specs.declared.number.ObjNo.{ObjNo}
 use Rattle.entry_log.specs.declared.step.Part.{Part}
 use Rattle.entry_log.specs.declared.step.Part.TheVariants.{Return}
+use Rattle.state_rows.specs.ObjectRows.{place_of}
 use Rattle.state_rows.specs.declared.thread.ThreadRow.{ThreadRow}
 use Rattle.machine.specs.declared.state.State.{State}
 use Rattle.machine.specs.References.{same, total}
-use Rattle.machine.specs.Rows.{thread_of}
+use Rattle.machine.specs.Rows.{object_of, thread_of}
 
 -- the next step of a thread, None also where there is no thread
 abbrev pub part_of : Option ThreadRow → Option Part
@@ -23,14 +24,14 @@ is_returning _ = false
 abbrev pub found_object : ThreadRow → ObjNo
 found_object row = record { 0 = row.found % 65536 }
 
--- 1 where a thread found this object and hasn't come back yet, else 0
-abbrev pub seeks : ObjNo → Option ThreadRow → ℕ
-seeks o None = 0
-seeks o (Some row) = if is_returning row.part then same (found_object row) o else 0
+-- 1 where a thread found the object of this number and place and hasn't come back yet, else 0: another object may have the number since
+abbrev pub seeks : ObjNo → ℕ → Option ThreadRow → ℕ
+seeks o place None = 0
+seeks o place (Some row) = if is_returning row.part && row.sought == place then same (found_object row) o else 0
 
 -- how many threads are out on an object: none, unless callers share the kernel
 abbrev pub outs_of : State → ObjNo → ℕ
-outs_of S o = if S.mode.shared then total (seeks o) S.references.threads else 0
+outs_of S o = if S.mode.shared then total (seeks o (place_of (object_of S o))) S.references.threads else 0
 
 -- whether a thread is out
 abbrev pub is_out : State → ObjNo → Bool

@@ -22,6 +22,7 @@ MayAdvance n threads = (k : ℕ) (row : ThreadRow) → slice_index_or threads k 
 -- so many further moves have room, and the number of each thread has 16 bits
 pub record HasRoom (n : ℕ) (S : State) : Type 0 where
   pub objects : length S.references.objects + n ≤ 65535
+  pub made : S.references.made + n ≤ 18446744073709551615
   pub threads : length S.references.threads ≤ 65535
   pub instructions : MayAdvance n S.references.threads
   pub tables : AreSmallTables S.references.handles

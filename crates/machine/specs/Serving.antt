@@ -6,6 +6,7 @@ use Rattle.sym_base.specs.declared.number.ObjNo.{ObjNo}
 use Rattle.entry_log.specs.declared.step.Part.{Part}
 use Rattle.entry_log.specs.declared.step.Part.TheVariants as part
 use Rattle.state_rows.specs.declared.locks.LockRows.{LockRows}
+use Rattle.state_rows.specs.declared.object.ObjectRow.{ObjectRow}
 use Rattle.state_rows.specs.declared.messages.Message.{Message}
 use Rattle.state_rows.specs.declared.messages.MessageRows.{MessageRows}
 use Rattle.state_rows.specs.declared.messages.Way.{Way}
@@ -17,7 +18,7 @@ use Rattle.state_rows.specs.declared.thread.Stage.TheVariants.{Live}
 use Rattle.state_rows.specs.declared.thread.Waiting.TheVariants as waiting
 use Rattle.state_rows.specs.declared.thread.ThreadRow.{ThreadRow}
 use Rattle.state_rows.specs.Locks.{owner_at}
-use Rattle.state_rows.specs.ServerRows.{IsServer, IsSession, server_at, session_at, linked_at, server_of, is_closing, was_opened, holds}
+use Rattle.state_rows.specs.ServerRows.{IsServer, IsSession, server_at, session_at, linked_at, server_of, is_closing, is_to_open, was_opened, holds}
 use Rattle.machine.specs.References.{total, mutex_names}
 use Rattle.machine.specs.ServerMoves.{owned_by}
 use Rattle.machine.specs.ThreadCalls.{is_live}
@@ -36,15 +37,16 @@ pub record IsServerOf (r : ServerRows) (t o : ObjNo) : Type 0 where
 abbrev pub IsUnlinked : List (Option ThreadRow) → ServerRows → ObjNo → Type 0
 IsUnlinked threads r o = (slice_index_or threads o.0 None ≡ None) × (session_at r o ≡ None)
 
--- an object that may have had a link: a thread, or a session
-abbrev pub MayBeLinked : List (Option ThreadRow) → ServerRows → ObjNo → Type 0
-MayBeLinked threads r x = length threads ≤ x.0 → IsSession r x
+-- whether an object isn't there, or is dead
+abbrev pub is_over : Option ObjectRow → Bool
+is_over None = true
+is_over (Some row) = row.dead
 
 -- The rows of servers and sessions: one for each object that may be made; each owned server is one that its owner made, once; one whose
 -- owner isn't live is closing; a thread that has given up all owns none; servers have no link, and no thread holds one as a mutex; a session is
--- linked to a server, and has the number of no process and no thread; whoever is listed as linked to a server is; and what isn't made yet
--- is no session, and none is linked to it.
-pub record AreServers (spent : ThreadRow → Bool) (objects : ℕ) (threads : List (Option ThreadRow)) (locks : LockRows)
+-- linked to a server, is no thread, and no thread's link leads to it; a dead one is linked to none; whoever is listed as linked to a server is; and
+-- a number without an object is no session, and none is linked to it.
+pub record AreServers (spent : ThreadRow → Bool) (objects : List (Option ObjectRow)) (threads : List (Option ThreadRow)) (locks : LockRows)
     (owned : List (List ObjNo)) (r : ServerRows) : Type 0 where
   pub servers_sized : length r.servers ≡ OBJECTS
   pub sessions_sized : length r.sessions ≡ OBJECTS
@@ -58,10 +60,12 @@ pub record AreServers (spent : ThreadRow → Bool) (objects : ℕ) (threads : Li
   pub unlinked : (o : ObjNo) → IsServer r o → IsUnlinked threads r o
   pub unlocked : (o : ObjNo) → IsServer r o → owner_at locks o ≡ None
   pub sessions : (s o : ObjNo) → server_of r s ≡ Some o → IsServer r o
-  pub sessions_later : (s : ObjNo) → s.0 < length threads → session_at r s ≡ None
+  pub sessions_apart : (s : ObjNo) → is_some (slice_index_or threads s.0 None) ≡ true → session_at r s ≡ None
+  pub links_apart : (k : ℕ) (row : ThreadRow) (p : ObjNo) → slice_index_or threads k None ≡ Some row → row.link ≡ Some p → session_at r p ≡ None
+  pub sessions_over : (s : ObjNo) → is_over (slice_index_or objects s.0 None) ≡ true → server_of r s ≡ None
   pub linked : (s o : ObjNo) → holds s (linked_at r o) ≡ true → server_of r s ≡ Some o
-  pub sessions_made : (s : ObjNo) → objects ≤ s.0 → session_at r s ≡ None
-  pub linked_made : (o : ObjNo) → objects ≤ o.0 → linked_at r o ≡ []
+  pub sessions_made : (s : ObjNo) → slice_index_or objects s.0 None ≡ None → session_at r s ≡ None
+  pub linked_made : (o : ObjNo) → slice_index_or objects o.0 None ≡ None → linked_at r o ≡ []
 
 -- 1 where a message is one that a client sent with a status, and where it is one whose end it waits for
 abbrev pub is_sent : ObjNo → ℕ → ObjNo → Way → Bool
@@ -90,36 +94,24 @@ abbrev pub AreRising : List Message → Type 0
 AreRising [] = Unit {0}
 AreRising (message ∷ rest) = ((other : Message) → Contains rest other → message.number.0 < other.number.0) × AreRising rest
 
--- 1 for a message that disconnects, for a session, for one that was opened and not closed since, and for a thread that is about to send
--- the message that connects one
+-- 1 for a message that disconnects a session
 abbrev pub disconnect_bit_of : Way → ℕ
 disconnect_bit_of Disconnect = 1
 disconnect_bit_of _ = 0
 
-abbrev pub disconnect_bit : Message → ℕ
-disconnect_bit message = disconnect_bit_of message.row.way
+abbrev pub disconnects_of : ObjNo → Message → ℕ
+disconnects_of s message = if message.row.session.0 == s.0 then disconnect_bit_of message.row.way else 0
 
-abbrev pub session_bit : Option SessionRow → ℕ
-session_bit None = 0
-session_bit (Some row) = 1
-
+-- 1 for a session that was opened and not closed since, and for one that is to be opened or was
 abbrev pub open_bit : Option SessionRow → ℕ
 open_bit row = if was_opened row then 1 else 0
 
-abbrev pub is_sending : Option Part → ℕ
-is_sending (Some part.Send) = 1
-is_sending _ = 0
+abbrev pub unclosed_bit : Option SessionRow → ℕ
+unclosed_bit row = if is_to_open row then 1 else open_bit row
 
-abbrev pub sending_bit : Option ThreadRow → ℕ
-sending_bit None = 0
-sending_bit (Some row) = is_sending row.part
-
--- how many sessions are disconnected, open, or about to be
-abbrev pub sessions_used : List (Option ThreadRow) → ServerRows → List Message → ℕ
-sessions_used threads r outstanding = total disconnect_bit outstanding + total open_bit r.sessions + total sending_bit threads
-
-abbrev pub sessions_there : ServerRows → ℕ
-sessions_there r = total session_bit r.sessions
+-- how often a session is to be closed, or was and its server isn't told so yet: once at most, since it is opened once
+abbrev pub times_closed : ServerRows → List Message → ObjNo → ℕ
+times_closed r outstanding s = unclosed_bit (session_at r s) + total (disconnects_of s) outstanding
 
 -- 1 for a step that is the last of its instruction
 abbrev pub begun : Option Part → ℕ
@@ -141,8 +133,8 @@ abbrev pub thread_bit : Option ThreadRow → ℕ
 thread_bit row = if is_some row then 1 else 0
 
 -- The rows of messages: the numbers rise and were given; each session is one, and each client is there; no two messages have one status of a
--- client, and that is awaited; a client has one message at most whose end it waits for, and where it is live it waits for a reply; no more
--- sessions are disconnected, open or about to be than there are; and no more messages are accepted than the instructions of all threads send.
+-- client, and that is awaited; a client has one message at most whose end it waits for, and where it is live it waits for a reply; a session is
+-- closed once at most; and no more messages are accepted than the instructions of all threads send.
 pub record AreMessages (IsAwaited : ObjNo → ℕ → Type 0) (threads : List (Option ThreadRow)) (servers : ServerRows) (r : MessageRows) : Type 0 where
   pub objects : r.objects ≡ OBJECTS
   pub rising : AreRising r.outstanding
@@ -154,6 +146,6 @@ pub record AreMessages (IsAwaited : ObjNo → ℕ → Type 0) (threads : List (O
   pub called : (u : ObjNo) → times_called r.outstanding u ≤ 1
   pub replies : (u : ObjNo) (row : ThreadRow) → 0 < times_called r.outstanding u
       → slice_index_or threads u.0 None ≡ Some row → row.stage ≡ Live → row.waiting ≡ waiting.Reply
-  pub few : sessions_used threads servers r.outstanding ≤ sessions_there servers
+  pub closed : (s : ObjNo) → times_closed servers r.outstanding s ≤ 1
   pub threads_few : total thread_bit threads ≤ THREADS
   pub numbered : numbers_used threads servers r ≤ 2 * THREAD_INSTRUCTIONS * THREADS

@@ -29,7 +29,7 @@ use Rattle.machine.specs.Decide.{nothing, answer, refuse, unless_holding, answer
 use Rattle.machine.specs.Find.{seek, return_to}
 use Rattle.machine.specs.Handles.{holder_of, thread_handle, object_at}
 use Rattle.machine.specs.Look.{look_kind}
-use Rattle.machine.specs.Messaging.{connects, no_args, slots_of, open_server, post}
+use Rattle.machine.specs.Messaging.{connects, no_args, slots_of, open_server, server_to_open, post}
 use Rattle.machine.specs.Moves.{no_number_left, next_object}
 
 -- the four arguments of an instruction
@@ -61,7 +61,7 @@ connect_make S t slots (Some o) = connect_to S t slots o (server_at S.serving.se
 abbrev pub fail_connect : ObjNo → ThreadRow → Part → ObjNo → ℤ → Decision
 fail_connect t row part s code = answer t (Of word.Connect part) (Lose (holder_of t row row.found) s ∷ []) code
 
--- the fourth step: the message that connects is sent, and the session is open; a server that is closing is terminated
+-- the fourth step: the message that connects is sent, and the session is open; a server that is closing is terminated. A session is opened once
 abbrev pub send_connect : State → ObjNo → ThreadRow → ObjNo → Option ObjNo → Decision
 send_connect S t row s None = fail_connect t row Send s (error_code ServerTerminated)
 send_connect S t row s (Some o) = record {
@@ -72,7 +72,7 @@ send_connect S t row s (Some o) = record {
 
 abbrev pub connect_send : State → ObjNo → ThreadRow → Option ObjNo → Decision
 connect_send S t row None = nothing
-connect_send S t row (Some s) = unless_holding S t (Of word.Connect Send) (send_connect S t row s (open_server S s))
+connect_send S t row (Some s) = unless_holding S t (Of word.Connect Send) (send_connect S t row s (server_to_open S s))
 
 -- the last step: the server accepted, and the handle is answered, or the connection fails
 abbrev pub end_connect : ObjNo → ThreadRow → ℕ → ObjNo → ℤ → Decision

@@ -33,7 +33,7 @@ use Rattle.machine.specs.declared.references.References.{References}
 use Rattle.machine.specs.declared.synchronization.Synchronization.{Synchronization}
 use Rattle.machine.specs.declared.serving.Serving.{Serving}
 use Rattle.machine.specs.declared.services.Services.{Services}
-use Rattle.machine.specs.Serving.{IsUnlinked, MayBeLinked, AreServers, AreMessages}
+use Rattle.machine.specs.Serving.{IsUnlinked, AreServers, AreMessages}
 use Rattle.machine.specs.Rows.{object_of}
 use Rattle.state_rows.specs.HandleSlots.{IsTable, slot_at}
 use Rattle.state_rows.specs.declared.locks.Owner.{Owner}
@@ -42,12 +42,12 @@ use Rattle.state_rows.specs.Locks.{owner_at, count_at, waiters_at, is_among}
 use Rattle.machine.specs.References.{total, same, mutex_names, count_of}
 use Rattle.machine.specs.HeldIn.{owed_by}
 use Rattle.machine.specs.Task.{instructions_of, served_queue, is_ready}
-use Rattle.machine.specs.Out.{is_returning, outs_of, part_of}
+use Rattle.machine.specs.Out.{is_returning, outs_of, part_of, seeks}
 use Rattle.machine.specs.LogonMoves.{is_logon}
 use Rattle.machine.specs.Arrivals.{is_listed}
 use Rattle.state_rows.specs.DeclaredCalls.{calls_of}
 
--- processes and threads, the supervisor among them, have the least numbers, and a handle table and a list of duties each
+-- processes and threads, the supervisor among them, had the least numbers at boot, and have a handle table and a list of duties each
 pub record AreSized (r : References) : Type 0 where
   pub tables : length r.handles ≡ length r.threads
   pub duties : length r.owed ≡ length r.threads
@@ -55,6 +55,17 @@ pub record AreSized (r : References) : Type 0 where
   pub supervised : 2 ≤ length r.threads
   pub threads_few : length r.threads ≤ BOOT_OBJECTS
   pub objects_few : length r.objects ≤ OBJECTS
+
+-- Places: that of each object is one of the makings so far, and no other object has it; whoever comes back from a find found an object that was made,
+-- and where an object of its place is there, that has the number which it found; and where no number is used again, each making gave the next number.
+pub record ArePlaces (reuse : Bool) (r : References) : Type 0 where
+  pub below : (k : ℕ) (row : ObjectRow) → slice_index_or r.objects k None ≡ Some row → row.place < r.made
+  pub apart : (j k : ℕ) (one other : ObjectRow) → slice_index_or r.objects j None ≡ Some one → slice_index_or r.objects k None ≡ Some other
+      → one.place ≡ other.place → j ≡ k
+  pub sought : (o : ObjNo) (place : ℕ) → 0 < total (seeks o place) r.threads → place < r.made
+  pub found : (o : ObjNo) (k : ℕ) (row : ObjectRow) → slice_index_or r.objects k None ≡ Some row → 0 < total (seeks o row.place) r.threads → k ≡ o.0
+  pub makings : reuse ≡ false → r.made ≡ length r.objects
+  pub numbers : reuse ≡ false → (k : ℕ) (row : ObjectRow) → slice_index_or r.objects k None ≡ Some row → row.place ≡ k
 
 -- each handle table is one
 abbrev pub AreTables : List (List HandleSlot) → Type 0
@@ -98,19 +109,24 @@ weight (Close (Link x) o) = 2
 weight (Close _ o) = 4
 weight (Sweep o) = 1
 
--- whose closes a thread may owe: its own temporary reference's and ownership's, the link's of a thread or a session, to what has no link
--- itself, that of a message which was accepted, and the kernel's
-abbrev pub MayOwe : List (Option ThreadRow) → ServerRows → ℕ → ℕ → Holder → ObjNo → Type 0
-MayOwe threads servers accepted k (Temp u) o = u.0 ≡ k
-MayOwe threads servers accepted k (Own u) o = u.0 ≡ k
-MayOwe threads servers accepted k (Link x) o = IsUnlinked threads servers o × MayBeLinked threads servers x
-MayOwe threads servers accepted k (OfMessage m) o = m.0 ≤ accepted
-MayOwe threads servers accepted k Kernel o = Unit {0}
-MayOwe threads servers accepted k _ o = ⊥
+-- 1 for the owed sweep of an object
+abbrev pub owed_sweeps : ObjNo → Owed → ℕ
+owed_sweeps o (Close holder x) = 0
+owed_sweeps o (Sweep x) = same x o
+
+-- whose closes a thread may owe, and what it owes behind each: its own temporary reference's and ownership's; the link's of an object whose sweep it
+-- owes later, to what has no link itself; that of a message which was accepted; and the kernel's
+abbrev pub MayOwe : List (Option ThreadRow) → ServerRows → ℕ → ℕ → Holder → ObjNo → List Owed → Type 0
+MayOwe threads servers accepted k (Temp u) o later = u.0 ≡ k
+MayOwe threads servers accepted k (Own u) o later = u.0 ≡ k
+MayOwe threads servers accepted k (Link x) o later = IsUnlinked threads servers o × (0 < total (owed_sweeps x) later)
+MayOwe threads servers accepted k (OfMessage m) o later = m.0 ≤ accepted
+MayOwe threads servers accepted k Kernel o later = Unit {0}
+MayOwe threads servers accepted k _ o later = ⊥
 
 abbrev pub EachMayOwe : List (Option ThreadRow) → ServerRows → ℕ → ℕ → List Owed → Type 0
 EachMayOwe threads servers accepted k [] = Unit {0}
-EachMayOwe threads servers accepted k (Close h o ∷ rest) = MayOwe threads servers accepted k h o × EachMayOwe threads servers accepted k rest
+EachMayOwe threads servers accepted k (Close h o ∷ rest) = MayOwe threads servers accepted k h o rest × EachMayOwe threads servers accepted k rest
 EachMayOwe threads servers accepted k (Sweep o ∷ rest) = EachMayOwe threads servers accepted k rest
 
 -- what each thread owes is its own, and weighs at most 12: two closes, the close of a link and a sweep; between a find and its return it owes
@@ -206,8 +222,8 @@ times_held mutexes t o = total (mutex_names o) (slice_index_or mutexes t.0 [])
 
 -- The rows of mutexes and semaphores: one for each object that may be made; counts stay in their range; the owner of a
 -- mutex holds it once, and nobody else does; whoever stands among an object's waiters waits for it, and owes no close of
--- its ownership; and what isn't made yet has no owner and no waiter.
-pub record AreLocks (objects : ℕ) (threads : List (Option ThreadRow)) (mutexes : List (List ObjNo)) (owed : List (List Owed)) (r : LockRows) : Type 0 where
+-- its ownership; and a number without an object has no owner, no waiter and count 0.
+pub record AreLocks (objects : List (Option ObjectRow)) (threads : List (Option ThreadRow)) (mutexes : List (List ObjNo)) (owed : List (List Owed)) (r : LockRows) : Type 0 where
   pub owners_sized : length r.owners ≡ OBJECTS
   pub counts_sized : length r.counts ≡ OBJECTS
   pub waiters_sized : length r.waiters ≡ OBJECTS
@@ -217,8 +233,9 @@ pub record AreLocks (objects : ℕ) (threads : List (Option ThreadRow)) (mutexes
   pub held : (t o : ObjNo) → 0 < times_held mutexes t o → IsOwnerOf r t o
   pub waiters : (t o : ObjNo) → is_among t (waiters_at r o) ≡ true → Awaits threads t o
   pub paid : (t o : ObjNo) → is_among t (waiters_at r o) ≡ true → total (owed_by (Own t) o) (slice_index_or owed t.0 []) ≡ 0
-  pub owners_made : (o : ObjNo) → objects ≤ o.0 → owner_at r o ≡ None
-  pub waiters_made : (o : ObjNo) → objects ≤ o.0 → waiters_at r o ≡ []
+  pub owners_made : (o : ObjNo) → slice_index_or objects o.0 None ≡ None → owner_at r o ≡ None
+  pub waiters_made : (o : ObjNo) → slice_index_or objects o.0 None ≡ None → waiters_at r o ≡ []
+  pub counts_made : (o : ObjNo) → slice_index_or objects o.0 None ≡ None → count_at r o ≡ 0
 
 -- the memory of a process has 1,024 bytes, and a thread's process has one
 pub record AreMemories (threads : List (Option ThreadRow)) (memories : List (Option (List ℕ))) : Type 0 where
@@ -253,16 +270,13 @@ pub record IsSpent (tables : List (List HandleSlot)) (k : ℕ) (row : ThreadRow)
   pub going : is_returning row.part ≡ false
   pub empty : (i : ℕ) → (slot_at (slice_index_or tables k []) i).object ≡ None
 
--- each thread that is cleaned or buried has given up all, and one whose object is dead has no link any more
+-- each thread that is cleaned or buried has given up all, one whose object is dead has no link any more, and a number without an object is no thread
 pub record AreSpent (objects : List (Option ObjectRow)) (tables : List (List HandleSlot)) (threads : List (Option ThreadRow)) : Type 0 where
   pub rows : (k : ℕ) (row : ThreadRow) → slice_index_or threads k None ≡ Some row → is_spent row.stage ≡ true → IsSpent tables k row
   pub unlinked : (k : ℕ) (row : ThreadRow) → slice_index_or threads k None ≡ Some row → is_dead (slice_index_or objects k None) ≡ 1 → row.link ≡ None
+  pub threads_made : (k : ℕ) → slice_index_or objects k None ≡ None → slice_index_or threads k None ≡ None
 
 -- how often the sweep of an object is owed
-abbrev pub owed_sweeps : ObjNo → Owed → ℕ
-owed_sweeps o (Close holder x) = 0
-owed_sweeps o (Sweep x) = same x o
-
 abbrev pub sweeps_of : State → ObjNo → ℕ
 sweeps_of S o = total (total (owed_sweeps o)) S.references.owed
 
@@ -286,15 +300,16 @@ pub record IsReadyList (script : Script) (S : State) (qs : List ObjNo) : Type 0 
 -- The conditions on the rows of each group. Each reads its group whole, and of the other groups what it names.
 
 -- objects, handle tables, threads and duties; the sessions and the messages that were accepted say whose closes may be owed
-pub record AreReferenceRows (script : Script) (servers : ServerRows) (accepted : ℕ) (r : References) : Type 0 where
+pub record AreReferenceRows (script : Script) (reuse : Bool) (servers : ServerRows) (accepted : ℕ) (r : References) : Type 0 where
   pub sized : AreSized r
+  pub places : ArePlaces reuse r
   pub tables : AreTables r.handles
   pub threads : AreThreads script r.threads
   pub duties : AreDuties r.threads servers accepted r.owed
   pub spent : AreSpent r.objects r.handles r.threads
 
--- what threads synchronize by, for so many threads and so many objects
-pub record AreSynchronizationRows (script : Script) (count objects : ℕ) (threads : List (Option ThreadRow))
+-- what threads synchronize by, for so many threads and for these objects
+pub record AreSynchronizationRows (script : Script) (count : ℕ) (objects : List (Option ObjectRow)) (threads : List (Option ThreadRow))
     (owed : List (List Owed)) (r : Synchronization) : Type 0 where
   pub nano : AreSynchronized script threads r.nano
   pub deferred : AreCalls script r.deferred
@@ -303,8 +318,8 @@ pub record AreSynchronizationRows (script : Script) (count objects : ℕ) (threa
   pub logons : AreLogons count r.requests r.logons
   pub awaited : AreAwaited threads r.requests r.logons
 
--- servers and messages, for so many objects; locks are no servers, and a message's status is told by nothing else
-pub record AreServingRows (objects : ℕ) (threads : List (Option ThreadRow)) (locks : LockRows) (untold : ObjNo → ℕ → Type 0) (r : Serving) : Type 0 where
+-- servers and messages, for these objects; locks are no servers, and a message's status is told by nothing else
+pub record AreServingRows (objects : List (Option ObjectRow)) (threads : List (Option ThreadRow)) (locks : LockRows) (untold : ObjNo → ℕ → Type 0) (r : Serving) : Type 0 where
   pub servers : AreServers (λ row. is_spent row.stage) objects threads locks r.owned r.servers
   pub messages : AreMessages untold threads r.servers r.messages
 
@@ -314,10 +329,10 @@ pub record AreServiceRows (threads : List (Option ThreadRow)) (r : Services) : T
 
 -- the rows of every state, also of one in the middle of an action
 pub record AreRows (script : Script) (S : State) : Type 0 where
-  pub references : AreReferenceRows script S.serving.servers S.serving.messages.accepted S.references
+  pub references : AreReferenceRows script S.mode.reuse S.serving.servers S.serving.messages.accepted S.references
   pub synchronization : AreSynchronizationRows script (length S.references.threads)
-      (length S.references.objects) S.references.threads S.references.owed S.synchronization
-  pub serving : AreServingRows (length S.references.objects) S.references.threads S.synchronization.locks
+      S.references.objects S.references.threads S.references.owed S.synchronization
+  pub serving : AreServingRows S.references.objects S.references.threads S.synchronization.locks
       (IsUntold S.synchronization.requests S.synchronization.logons) S.serving
   pub services : AreServiceRows S.references.threads S.services
   pub lives : AreLives S

@@ -24,7 +24,7 @@ const KERNEL: ObjNo = ObjNo(0);
 /// The priority of the supervisor.
 const SUPERVISOR_PRIORITY: u8 = 48;
 
-/// An object that stands at boot.
+/// An object that stands at boot. Its place is its number, which isn't known yet.
 fn boot_object(kind: Kind, name: Name) -> ObjectRow
     ensures { result ≡ boot_object kind name }
 {
@@ -32,6 +32,7 @@ fn boot_object(kind: Kind, name: Name) -> ObjectRow
         kind,
         name,
         dead: false,
+        place: 0,
     }
 }
 

@@ -1,6 +1,6 @@
 //! Lists at boot, with an item for each object that stands there.
 ghost use Rattle.std.specs.Prelude.{◌≡◌, ◌≤◌, [], IfOk, length, map, replicate};
-ghost use Rattle.machine.specs.Boot.{ready_from, memory_of};
+ghost use Rattle.machine.specs.Boot.{objects_from, ready_from, memory_of};
 ghost use Rattle.state_rows.specs.HandleSlots.{fresh_slot};
 
 use crate::boot::Born;
@@ -54,13 +54,16 @@ pub fn ready_from(alloc: Global, all: &[Born]) -> Result<Items<ThreadNo>, NoMemo
     Ok(Items::new(ready))
 }
 
-/// The objects of what stands at boot.
+/// The objects of what stands at boot, each with its number as its place.
 pub fn objects_of(alloc: Global, all: &[Born]) -> Result<Items<Option<ObjectRow>>, NoMemory>
-    ensures { IfOk result (λ objects. objects ≡ map (λ b. Some b.object) all.now) }
+    ensures { IfOk result (λ objects. objects ≡ objects_from 0 all.now) }
 {
     let mut objects = Vec::new(alloc);
-    for born in all {
-        objects.push(Some(born.object))?;
+    for (n, born) in all.iter().enumerate() {
+        objects.push(Some(ObjectRow {
+            place: n as u64,
+            ..born.object
+        }))?;
     }
     Ok(Items::new(objects))
 }

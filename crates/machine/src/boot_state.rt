@@ -7,7 +7,7 @@ ghost use Rattle.state_rows.specs.RequestChanges.{new_rows as request_rows};
 ghost use Rattle.state_rows.specs.LockChanges.{new_rows as lock_rows};
 ghost use Rattle.state_rows.specs.ServerChanges.{no_rows};
 ghost use Rattle.state_rows.specs.MessageChanges.{no_messages};
-ghost use Rattle.machine.specs.Boot.{nano_of, memory_of, boot_of, boot, ready_at_boot};
+ghost use Rattle.machine.specs.Boot.{nano_of, memory_of, objects_from, uses_again, boot_of, boot, ready_at_boot};
 
 use crate::boot::{Born, all_born};
 use crate::boot_lists::{
@@ -23,7 +23,7 @@ use sym_base::{Items, Limits, NoMemory, ThreadNo};
 /// What stands at boot, each with an empty table, and owing nothing.
 fn references_of(alloc: Global, all: &[Born]) -> Result<References, NoMemory>
     requires { length all.now ≤ 65536 }
-    ensures { IfOk result (λ references. references ≡ record { objects = map (λ b. Some b.object) all.now; handles = map (λ _. replicate 256 fresh_slot) all.now; threads = map (λ b. b.thread) all.now; owed = map (λ _. []) all.now }) }
+    ensures { IfOk result (λ references. references ≡ record { objects = objects_from 0 all.now; made = length all.now; handles = map (λ _. replicate 256 fresh_slot) all.now; threads = map (λ b. b.thread) all.now; owed = map (λ _. []) all.now }) }
 {
     let objects = objects_of(alloc, all)?;
     let handles = fresh_tables(alloc, all)?;
@@ -31,6 +31,7 @@ fn references_of(alloc: Global, all: &[Born]) -> Result<References, NoMemory>
     let owed = empty_lists(alloc, all)?;
     Ok(References {
         objects,
+        made: all.len() as u64,
         handles,
         threads,
         owed,
@@ -83,18 +84,26 @@ fn services_of(alloc: Global, all: &[Born]) -> Result<Services, NoMemory>
     Ok(Services { memories })
 }
 
+/// Whether the kernel of a script of this version uses the numbers of swept objects again: from version 2 on.
+pub fn uses_again(version: u8) -> bool
+    ensures { result ≡ uses_again version }
+{
+    version > 1
+}
+
 /// The state in which these stand, each with an empty table, nothing that it owes or holds and no logon, no device with a request,
-/// no server, and no message; the kernel's pool has so many slots for messages.
+/// no server, and no message; the kernel's pool has so many slots for messages, and numbers are used again or aren't.
 #[tactic(auto, unfolding(crate::specs::Boot::boot_of))]
 pub fn boot_of(
     alloc: Global,
+    reuse: bool,
     pool: u8,
     fast: u8,
     calls: DeferredRows,
     all: &[Born],
 ) -> Result<State, NoMemory>
     requires { length all.now ≤ 65536 }
-    ensures { IfOk result (λ state. state ≡ boot_of pool fast calls all.now) }
+    ensures { IfOk result (λ state. state ≡ boot_of reuse pool fast calls all.now) }
 {
     let references = references_of(alloc, all)?;
     let synchronization = synchronization_of(alloc, fast, calls, all)?;
@@ -104,6 +113,7 @@ pub fn boot_of(
         mode: Mode {
             shared: false,
             keep: false,
+            reuse,
         },
         references,
         synchronization,
@@ -120,7 +130,15 @@ pub fn state_at_boot(alloc: Global, script: &Script) -> Result<State, NoMemory>
 {
     let all = all_born(alloc, script)?;
     let calls = calls_of(alloc, script)?;
-    boot_of(alloc, script.pool, script.fast, calls, all.as_slice())
+    let reuse = uses_again(script.version);
+    boot_of(
+        alloc,
+        reuse,
+        script.pool,
+        script.fast,
+        calls,
+        all.as_slice(),
+    )
 }
 
 /// The ready list at boot: the threads that are declared and aren't held, in order of number.

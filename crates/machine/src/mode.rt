@@ -8,4 +8,7 @@ pub struct Mode {
     pub shared: bool,
     /// Whether the present action keeps an object whose last reference it gives up while somebody is out on it.
     pub keep: bool,
+    /// Whether a new object takes the least number that no unswept object has. Else it takes the number after the greatest
+    /// so far.
+    pub reuse: bool,
 }

@@ -9,8 +9,10 @@ use sym_base::Items;
 /// Objects, handle tables, threads' rows and what threads owe: what a reference is taken in and given up from.
 #[derive(Drop)]
 pub struct References {
-    /// Each object that was made; None once it is swept.
+    /// Each object by number; None at a number that was swept and that no object has since.
     pub objects: Items<Option<ObjectRow>>,
+    /// How many objects were made, with those that stand at boot: the place of the next one.
+    pub made: u64,
     /// The handle table of each process and thread.
     pub handles: Items<Items<HandleSlot>>,
     /// Each thread; None at the number of a process, and once it is swept. The supervisor has a row too.
@@ -26,6 +28,7 @@ impl References {
     {
         Ok(References {
             objects: self.objects.copied(alloc)?,
+            made: self.made,
             handles: copied_lists(alloc, self.handles.as_slice())?,
             threads: self.threads.copied(alloc)?,
             owed: copied_lists(alloc, self.owed.as_slice())?,

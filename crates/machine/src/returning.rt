@@ -3,8 +3,10 @@ ghost use Rattle.std.specs.Prelude.{◌≡◌, nat_lt};
 ghost use Rattle.machine.specs.Out.{is_returning, found_object, seeks, outs_of};
 ghost use Rattle.std.specs.List.{list_any};
 
+use crate::rows::object_of;
 use crate::{State, ThreadRow};
 use entry_log::Part;
+use state_rows::place_of;
 use sym_base::ObjNo;
 
 /// Whether a thread is between a find and its return.
@@ -21,26 +23,29 @@ pub fn found_object(row: &ThreadRow) -> ObjNo
     ObjNo((row.found % 65_536) as u16)
 }
 
-/// Whether a thread found an object and hasn't come back yet.
-fn seeks(object: ObjNo, row: &Option<ThreadRow>) -> bool
-    ensures { result ≡ nat_lt 0 (seeks object row.now) }
+/// Whether a thread found an object of this number and place and hasn't come back yet.
+fn seeks(object: ObjNo, place: u64, row: &Option<ThreadRow>) -> bool
+    ensures { result ≡ nat_lt 0 (seeks object place row.now) }
 {
     match row {
-        Some(row) => is_returning(row.part) && found_object(row).0 == object.0,
+        Some(row) => {
+            is_returning(row.part) && row.sought == place && found_object(row).0 == object.0
+        }
         None => false,
     }
 }
 
-/// Whether one of these threads found an object and hasn't come back yet.
-fn is_sought_by(object: ObjNo, threads: &[Option<ThreadRow>]) -> bool
-    ensures { result ≡ list_any (λ row. nat_lt 0 (seeks object row)) threads.now }
+/// Whether one of these threads found such an object and hasn't come back yet.
+fn is_sought_by(object: ObjNo, place: u64, threads: &[Option<ThreadRow>]) -> bool
+    ensures { result ≡ list_any (λ row. nat_lt 0 (seeks object place row)) threads.now }
 {
-    threads.iter().any(|row| seeks(object, row))
+    threads.iter().any(|row| seeks(object, place, row))
 }
 
 /// Whether somebody is out on an object.
 pub fn is_sought(state: &State, object: ObjNo) -> bool
     ensures { result ≡ nat_lt 0 (outs_of state.now object) }
 {
-    state.mode.shared && is_sought_by(object, state.references.threads.as_slice())
+    let place = place_of(&object_of(state, object));
+    state.mode.shared && is_sought_by(object, place, state.references.threads.as_slice())
 }

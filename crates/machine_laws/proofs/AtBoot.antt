@@ -5,6 +5,7 @@ pub mod BootLinks
 pub mod BootLocks
 pub mod BootNames
 pub mod BootNano
+pub mod BootObjects
 pub mod BootReady
 pub mod BootRequests
 pub mod BootRows

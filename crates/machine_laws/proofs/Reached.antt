@@ -4,5 +4,6 @@ pub mod Choices
 pub mod Histories
 pub mod Idleness
 pub mod LeftRows
+pub mod Makings
 pub mod Modes
 pub mod NextState

@@ -11,12 +11,11 @@ use Rattle.entry_log.specs.declared.entry.Actor.TheVariants.{Thread}
 use Rattle.entry_log.specs.declared.entry.Entry.{Entry}
 use Rattle.machine.specs.Holding.{is_holder}
 use Rattle.machine.specs.References.{same, pluses}
-use Rattle.machine.specs.Told.{finds}
 use Rattle.move_laws.proofs.References.Effects.{pluses-append}
 use Rattle.move_laws.proofs.References.Same.{if_le}
-use Rattle.machine_safe.specs.CountAfter.{effects_of, is_by, first_by, pluses_by, opens, opens_later, finds_to_open}
+use Rattle.machine_safe.specs.CountAfter.{effects_of, is_by, first_by, pluses_by, opens, opens_later}
 
-pluses_by_le : (effects : List Effect) (g : Holder) (x : ObjNo) → pluses_by effects g x ≤ pluses effects x
+pub pluses_by_le : (effects : List Effect) (g : Holder) (x : ObjNo) → pluses_by effects g x ≤ pluses effects x
 pluses_by_le [] g x = omega arith
 pluses_by_le (Plus h o ∷ rest) g x = let a = if_le (is_holder h g) (same o x) in let r = pluses_by_le rest g x in omega arith
 pluses_by_le (_ ∷ rest) g x = pluses_by_le rest g x
@@ -47,13 +46,7 @@ opens_later_adds : (actor : Actor) (first later : List Entry) (o : ObjNo) → op
 opens_later_adds (Thread t) first later o h = opens_adds t o later (and_right (is_none (first_by t first)) (opens t o (first_by t later)) h)
 opens_later_adds _ first later o h = cc
 
-not_later_step : (b : Bool) (n m : ℕ) → (b ≡ true → 0 < m) → m ≡ 0 → (if b then n else 0) ≡ 0
-not_later_step true n m h e = let a = h refl in absurd (omega arith)
-not_later_step false n m h e = refl
-
--- where no later entry adds a reference to an object, no find of it is one to open it
-pub no_find_to_open : (first later : List Entry) (o : ObjNo) → pluses (effects_of later) o ≡ 0 → finds_to_open first later o ≡ 0
-no_find_to_open [] later o h = refl
-no_find_to_open (e ∷ es) later o h =
-    let a = not_later_step (opens_later e.actor es later o) (finds e.effects o) (pluses (effects_of later) o) (opens_later_adds e.actor es later o) h in
-    let r = no_find_to_open es later o h in omega arith
+-- a find whose thread opens the object later, or doesn't
+pub not_later_step : (b : Bool) (n : ℕ) → b ≡ false → (if b then n else 0) ≡ 0
+not_later_step true n e = absurd (cc)
+not_later_step false n e = refl

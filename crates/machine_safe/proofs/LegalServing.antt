@@ -10,13 +10,11 @@ use Rattle.machine_safe.proofs.Deaths.Leaves.{empty-cleaning}
 use Rattle.machine_safe.proofs.Deaths.Order.{cleans-here}
 use Rattle.machine_safe.proofs.Deaths.Rows.{row_bit, stage_live}
 use Rattle.machine_safe.proofs.Serving.Books.{IsFated, book-boot, turn-entry}
-use Rattle.machine_safe.proofs.Serving.Turns.{Book, IsLawful}
-use Rattle.machine_safe.specs.CountAfter.{effects_of}
+use Rattle.machine_safe.proofs.Serving.Turns.{Book, IsLawful, nothing-left}
 use Rattle.machine_safe.specs.SafeDeaths.{StandsAt, cleanings}
 use Rattle.machine_safe.specs.SafeMessages.{IsSafeMessages, NothingLeft}
 use Rattle.machine_safe.specs.SafeServers.{IsSafeServers}
-use Rattle.machine_safe.specs.Sent.{finishes}
-use Rattle.machine_safe.specs.Served.{ends, ends_in, owner_in}
+use Rattle.machine_safe.specs.Served.{ends_in, owner_in}
 use Rattle.script_types.proofs.ShapeLaws.{formed_is_shaped}
 use Rattle.script_types.specs.declared.script.Script.{Script}
 use Rattle.std.proofs.Common.{Bool, List, Some, [], ap, append_assoc, arith, inl, inr, refl, subst, sym, ◌++◌, ◌<◌, ◌∙◌, ◌∷◌, ◌≡◌, false, Option, None}
@@ -30,8 +28,9 @@ use Rattle.machine_safe.proofs.Serving.Deeds.{Looked}
 use Rattle.machine_safe.proofs.Serving.Looked.{boot-looked, entry-looked}
 use Rattle.machine_safe.proofs.Serving.Connecting.{KeepHandles, kept-boot, kept-next}
 use Rattle.machine_safe.proofs.Serving.Served.{served-made}
-use Rattle.machine_safe.proofs.Serving.Steady.{IsSteady, steady-boot, steady-keeping, steady-next, steady-properly}
+use Rattle.machine_safe.proofs.Serving.Steady.{IsSteady, sends-over, steady-boot, steady-keeping, steady-next, steady-properly}
 use Rattle.machine.specs.Moves.{next_object}
+use Rattle.machine_safe.proofs.Serving.KeptRows.{next-unmade}
 use Rattle.state_rows.specs.ServerRows.{server_at}
 use Rattle.machine_safe.proofs.Serving.Reading.{reading}
 use Rattle.std.specs.Prelude.{is_some}
@@ -55,7 +54,7 @@ unmade-next script before S book = by (server_at S.serving.servers (next_object 
   where
     by : (x : Option ServerRow) → server_at S.serving.servers (next_object S) ≡ x → is_some x ≡ false
     by None e = refl
-    by (Some row) e = let made = served-made script (reading before) S book.served (next_object S) row e in absurd (omega arith)
+    by (Some row) e = absurd (next-unmade S (served-made script (reading before) S book.served (next_object S) row e))
 
 -- what a history tells of servers and messages is asked of no choice
 pub book-keeping : (script : Script) (before : List Entry) (S : State) (keep : Bool) → Book script before S → Book script before (keeping keep S)
@@ -65,12 +64,11 @@ book-keeping script before S keep h = record {
         λ o row is. let row_is = h.served.rows o row is in
         record { made = row_is.made; owner = row_is.owner; closing = row_is.closing; owned = row_is.owned };
     links = h.served.links;
+    same = h.served.same;
     ended = h.served.ended;
     over = h.served.over;
     made = h.served.made;
-    unmade = h.served.unmade;
     places = h.served.places;
-    told_made = h.served.told_made;
     told_linked = h.served.told_linked;
   };
   letters = record {
@@ -84,7 +82,6 @@ book-keeping script before S keep h = record {
     sends = h.letters.sends;
   };
   slotted = record { sessions = h.slotted.sessions; pool = h.slotted.pool; servers = h.slotted.servers };
-  fresh = h.fresh;
 }
 
 -- nor is whether a thread keeps the handle of the session that it made
@@ -117,10 +114,11 @@ book-after shared script before later valid legal =
         let shaped = formed_is_shaped script valid in
         let keep = S.mode.shared && is_deathless y.effects in
         let handles = handles-keeping script S keep h.2 in
-        let turn = turn-entry script xs (choosing y S) cuts.place shaped cuts.rows_done
-        (book-keeping script xs S keep h.0) h.1 handles (fated shared script xs valid cuts.legal_before) y cuts.done in
-        let looked = entry-looked script xs (choosing y S) cuts.place shaped cuts.rows_done h.1 y cuts.done in
         let steady = steady-keeping script S keep h.3 in
+        let turn = turn-entry script xs (choosing y S) cuts.place shaped cuts.rows_done
+        (book-keeping script xs S keep h.0) h.1 handles (sends-over script (choosing y S) steady)
+        (fated shared script xs valid cuts.legal_before) y cuts.done in
+        let looked = entry-looked script xs (choosing y S) cuts.place shaped cuts.rows_done h.1 y cuts.done in
         let kept = kept-next script (choosing y S) shaped cuts.rows_done (steady.own, steady.kinds)
         (steady-properly script (choosing y S) shaped cuts.rows_done steady) handles
         (unmade-next script xs S h.0) y.actor in
@@ -144,6 +142,7 @@ lawful shared script history before e later valid legal is =
     let keep = S.mode.shared && is_deathless e.effects in
     (turn-entry script before (choosing e S) c.place shaped c.rows_done
     (book-keeping script before S keep book.0) book.1 (handles-keeping script S keep book.2)
+    (sends-over script (choosing e S) (steady-keeping script S keep book.3))
     (fated shared script before valid c.legal_before) e c.done).lawful
 
 pub legal_busy : (shared : Bool) (script : Script) (history : List Entry) → IsWellFormed script → IsLegalIn shared script history → IsSafeBusy script history
@@ -166,8 +165,8 @@ module _ (shared : Bool) (script : Script) (history before : List Entry) (e : En
   book : Book script before (after_in shared script before)
   book = (book-after shared script before (e ∷ later) valid (subst (IsLegalIn shared script) is legal)).0
 
-  server-ended : 0 < ends (effects_of before) v
-  server-ended = elim (book.served.made t v owns) as (λ _. 0 < ends (effects_of before) v) [
+  server-ended : 0 < ends_in before v
+  server-ended = elim (book.served.made t v owns) as (λ _. 0 < ends_in before v) [
     | inl owned ↦
         let c = cut shared script history before e later valid legal is in
         let empty = empty-cleaning script (choosing e (after_in shared script before)) e t c.rows_done
@@ -176,23 +175,12 @@ module _ (shared : Bool) (script : Script) (history before : List Entry) (e : En
     | inr over ↦ over
   ]
 
-  server-over : 0 < ends_in before v
-  server-over = let same = (book.fresh v t owns).ends in let some = server-ended in omega arith
-
-  nothing-left : NothingLeft before v
-  nothing-left m a linked = elim (book.letters.all m a) as (λ _. finishes (effects_of before) m ≡ 1) [
-    | inl done ↦ done
-    | inr out ↦
-        let known = book.letters.known out.post out.among in
-        let both : Some out.post.server ≡ Some v = sym out.at ∙ linked in
-        let own : out.post.server ≡ v = cc in
-        let same_end = ap (ends (effects_of before)) own in
-        let lasts = known.lasts in
-        let over = server-ended in absurd (omega arith)
-  ]
+  server-left : NothingLeft before v
+  server-left = nothing-left script before (after_in shared script before) book v server-ended
 
 pub legal_servers : (shared : Bool) (script : Script) (history : List Entry) → IsWellFormed script → IsLegalIn shared script history → IsSafeServers history
 legal_servers shared script history valid legal = record {
-  ended = λ before e later t v is cleaned owns. server-over shared script history before e later t v valid legal is cleaned owns;
-  finished = λ before e later t v is cleaned owns. nothing-left shared script history before e later t v valid legal is cleaned owns;
+  ended = λ before e later t v is cleaned owns. server-ended shared script history before e later t v valid legal is cleaned owns;
+  remade = λ before e later u v is some owns. (lawful shared script history before e later valid legal is).renewed u v some owns;
+  finished = λ before e later t v is cleaned owns. server-left shared script history before e later t v valid legal is cleaned owns;
 }

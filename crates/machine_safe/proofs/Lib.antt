@@ -1,10 +1,12 @@
 pub mod Counts
 pub mod Deaths
 pub mod Done
+pub mod DoomedAble
 pub mod Finders
 pub mod FindsCounted
 pub mod FindsToOpen
 pub mod Held
+pub mod LeftNothing
 pub mod LegalDeaths
 pub mod LegalReferences
 pub mod LegalSafety
@@ -19,6 +21,7 @@ pub mod ServedHistory
 pub mod Serving
 pub mod SharedReadings
 pub mod SharedRuns
+pub mod SinceSwept
 pub mod UnsafeBusy
 pub mod UnsafeDeaths
 pub mod UnsafeMessages

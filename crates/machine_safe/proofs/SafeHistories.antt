@@ -8,25 +8,28 @@ use Rattle.script_types.specs.Shape.{IsShaped}
 use Rattle.script_types.specs.Source.{IsWellFormed}
 use Rattle.script_types.proofs.ShapeLaws.{formed_is_shaped}
 use Rattle.entry_log.specs.declared.entry.Entry.{Entry}
-use Rattle.machine.specs.Boot.{boot, boot_in}
+use Rattle.machine.specs.Boot.{boot, boot_in, uses_again}
 use Rattle.machine.specs.HeldIn.{held_in}
 use Rattle.machine.specs.History.{after, after_from, after_in, choosing, is_deathless, IsLegalIn}
 use Rattle.machine.specs.Holding.{EachFitsHolders, held_at_boot}
 use Rattle.machine.specs.Out.{outs_of, seeks}
-use Rattle.machine.specs.References.{count_of, minuses, pluses, total}
+use Rattle.machine.specs.References.{count_of, minuses, total}
+use Rattle.machine.specs.Rows.{object_of}
 use Rattle.machine.specs.Told.{deaths, removals}
-use Rattle.machine_laws.proofs.AtBoot.BootHolders.{held-boot, not_gone-boot}
+use Rattle.machine.specs.WellFormed.{IsAlive, is_dead}
+use Rattle.state_rows.specs.ObjectRows.{place_of}
+use Rattle.machine_laws.proofs.AtBoot.BootHolders.{held-boot, not_dead-boot}
 use Rattle.machine_laws.proofs.AtBoot.BootRows.{rows-boot}
 use Rattle.machine_laws.proofs.Reached.AfterHistory.{rows-keeping, well_formed-after}
-use Rattle.move_laws.proofs.Lives.Bits.{gone, gone_le, swept_le, gone_is}
-use Rattle.move_laws.proofs.Lives.LivesMove.{lives-dies}
+use Rattle.move_laws.proofs.Lives.Bits.{alive_undead, dead_le, gone_le}
+use Rattle.move_laws.proofs.Lives.LivesMove.{lives-dies, zero_or}
 use Rattle.move_laws.proofs.MoveLaws.Sound.{Sound}
-use Rattle.move_laws.proofs.References.Effects.{fits-same, pluses-append}
-use Rattle.machine_safe.specs.CountAfter.{effects_of, count_after, finds_to_open}
+use Rattle.move_laws.proofs.References.Effects.{fits-same, removals-append}
+use Rattle.machine_safe.specs.CountAfter.{effects_of, count_after, since_swept}
 use Rattle.machine_safe.specs.SafeReferences.{IsSafeReferences, DiesOnceALife, HasOneLife, DiesOnlyAtZero, DiesAtZero, MissesTheDead}
 use Rattle.machine_laws.proofs.Reached.Modes.{shared-after}
-use Rattle.machine_safe.proofs.FindsToOpen.{no_find_to_open}
-use Rattle.machine_safe.proofs.Runs.{effects-append, IsSoundRun, legal_runs, run-front, run-rest, run-last, run-counts, run-gone, run-swept, run-closed, run-fits}
+use Rattle.machine_safe.proofs.SinceSwept.{AreShut, count_after-is, finds-shut, shut-since}
+use Rattle.machine_safe.proofs.Runs.{effects-append, IsSoundRun, legal_runs, run-front, run-rest, run-last, run-closed, run-dead, run-fits, run-gone, run-reuse, run-unopened}
 use Rattle.entry_log.specs.declared.effect.Effect.{Effect}
 use Rattle.std.proofs.lemmas.Bool.{cases_lt}
 
@@ -52,30 +55,34 @@ split shared script history before e later run is =
       rest = run-rest script (boot_in shared script) (before ++ e ∷ []) later at;
     }
 
--- the count read off a history is the state's, with the finds that open the object later
-pub count_after-is : (shared : Bool) (script : Script) (first later : List Entry) (o : ObjNo)
-    → IsSoundRun script (boot_in shared script) first
-    → count_after script first later o ≡ count_of
-    (after_from script (boot_in shared script) first) o + finds_to_open first later o
-count_after-is shared script first later o run = let a = run-counts script (boot_in shared script) first o run in omega arith
+-- nothing is dead at boot
+not_dead : (shared : Bool) (script : Script) → IsShaped script → (o : ObjNo) → is_dead (object_of (boot_in shared script) o) ≡ 0
+not_dead shared script shaped o = not_dead-boot script shaped o
 
--- an object that died in an entry is gone after it
-dead_is_gone : (shared : Bool) (script : Script) (before : List Entry) (e : Entry) (later : List Entry) (o : ObjNo)
+-- an object that died in an entry is dead after it, and isn't swept in it
+dead_then : (shared : Bool) (script : Script) (before : List Entry) (e : Entry) (later : List Entry) (o : ObjNo)
     → IsSplit shared script before e later → 0 < deaths e.effects o
-    → gone (after_from script (boot_in shared script) (before ++ e ∷ [])).references.objects o ≡ 1
-dead_is_gone shared script before e later o s dead =
+    → (is_dead (object_of (after_from script (boot_in shared script) (before ++ e ∷ [])) o) ≡ 1) × (removals e.effects o ≡ 0)
+dead_then shared script before e later o s dead =
     let moved = s.step.lives.deads o in
-    let le = gone_le (after_from script (boot_in shared script) (before ++ e ∷ [])).references.objects o in omega arith
+    let le = dead_le (object_of (after_from script (boot_in shared script) (before ++ e ∷ [])) o) in
+    let unswept = zero_or (removals e.effects o) (λ some. let none = (s.step.lives.removes o some).1 in absurd (omega arith)) in
+    (omega arith, unswept)
 
-dies_only_at_zero : (shared : Bool) (script : Script) (history : List Entry)
-    → IsSoundRun script (boot_in shared script) history → (o : ObjNo) → DiesOnlyAtZero script history o
-dies_only_at_zero shared script history run o before e later is dead =
+-- it dies only where its last reference goes, if nobody who found it before opens it later
+pub dies_only_at_zero : (shared : Bool) (script : Script) (history : List Entry) → IsWellFormed script
+    → IsSoundRun script (boot_in shared script) history → (o : ObjNo)
+    → ((first later : List Entry) → history ≡ first ++ later → (IsAlive (object_of (after_in shared script first) o) → ⊥) → AreShut first later o)
+    → DiesOnlyAtZero script history o
+dies_only_at_zero shared script history valid run o shut before e later is dead =
     let s = split shared script history before e later run is in
     let last = s.step.lives.last o dead in
-    let closed = run-closed script (after_from script (boot_in shared script) (before ++ e ∷ [])) later o s.rest
-    (dead_is_gone shared script before e later o s dead) in
-    let count = count_after-is shared script (before ++ e ∷ []) later o s.run in
-    let none = no_find_to_open (before ++ e ∷ []) later o closed in
+    let one = (dead_then shared script before e later o s dead).0 in
+    let T = after_in shared script (before ++ e ∷ []) in
+    let behind = shut (before ++ e ∷ []) later (is ∙ sym (append_assoc before (e ∷ []) later))
+    (λ alive. let undead = alive_undead (object_of T o) alive in absurd (omega arith)) in
+    let none = finds-shut (since_swept (before ++ e ∷ []) o) later o (shut-since (before ++ e ∷ []) later o behind) in
+    let count = count_after-is shared script (before ++ e ∷ []) later o s.run (rows-boot shared script valid).lives in
     let zero : count_of (after_from script (boot_in shared script) (before ++ e ∷ [])) o ≡ 0 = last.1 in
     (last.0, omega arith)
 
@@ -88,7 +95,7 @@ pub dies_unless_out : (shared : Bool) (script : Script) (before : List Entry) (e
 dies_unless_out shared script before e later o valid s taken zero out =
     let S = after_in shared script before in
     let T = after_in shared script (before ++ e ∷ []) in
-    let count = count_after-is shared script (before ++ e ∷ []) later o s.run in
+    let count = count_after-is shared script (before ++ e ∷ []) later o s.run (rows-boot shared script valid).lives in
     let rows = rows-keeping script S (S.mode.shared && is_deathless e.effects) (well_formed-after shared script before valid).rows in
     lives-dies (choosing e S) T e.effects s.step.lives rows.lives o taken (omega arith)
 
@@ -100,47 +107,61 @@ dies_at_zero script history valid run o before e later is taken zero =
     let T = after script (before ++ e ∷ []) in
     let alone : T.mode.shared ≡ false = shared-after script (boot script) (before ++ e ∷ []) in
     inl (dies_unless_out false script before e later o valid s taken zero
-    (ap (λ (shared : Bool). if shared then total (seeks o) T.references.threads else 0) alone))
+    (ap (λ (shared : Bool). if shared then total (seeks o (place_of (object_of T o))) T.references.threads else 0) alone))
 
-has_one_life : (shared : Bool) (script : Script) (history : List Entry) → IsSoundRun script (boot_in shared script) history → (o : ObjNo) → HasOneLife history o
-has_one_life shared script history run o = record {
-  dies =
-      let a = run-gone script (boot_in shared script) history o run in
-      let b = gone_le (after_from script (boot_in shared script) history).references.objects o in omega arith;
-  closed = λ before e later is dead.
-      let s = split shared script history before e later run is in
-      run-closed script (after_from script (boot_in shared script) (before ++ e ∷ [])) later o s.rest (dead_is_gone shared script before e later o s dead);
-}
-
--- what is swept then was dead before
-swept_died : (shared : Bool) (script : Script) (before : List Entry) (e : Entry) (later : List Entry) (o : ObjNo)
-    → IsShaped script → IsSplit shared script before e later
-    → removals (effects_of (before ++ e ∷ [])) o ≤ deaths (effects_of before) o
-swept_died shared script before e later o shaped s =
-    let S = after_from script (boot_in shared script) before in
-    let T = after_from script (boot_in shared script) (before ++ e ∷ []) in
-    let gone_then = run-gone script (boot_in shared script) before o s.front in
-    let none = not_gone-boot script shaped o in
-    let swept_now = run-swept script (boot_in shared script) (before ++ e ∷ []) o s.run in
-    let more = s.step.lives.sweeps o in
-    let here = gone_is S.references.objects o in
-    elim (cases_lt 0 (removals e.effects o)) as (λ _. removals (effects_of (before ++ e ∷ [])) o ≤ deaths (effects_of before) o) [
-      | inl some ↦ let was = s.step.lives.removes o some in let few = swept_le T.references.objects o in omega arith
-      | inr quiet ↦ omega arith
-    ]
-
+-- an object dies once a life, and nobody opens it from its death until its sweep
 dies_once : (shared : Bool) (script : Script) (history : List Entry) → IsShaped script
     → IsSoundRun script (boot_in shared script) history → (o : ObjNo) → DiesOnceALife history o
 dies_once shared script history shaped run o = record {
   dies = λ before e later is.
       let s = split shared script history before e later run is in
-      let a = run-gone script (boot_in shared script) (before ++ e ∷ []) o s.run in
-      let b = gone_le (after_from script (boot_in shared script) (before ++ e ∷ [])).references.objects o in omega arith;
-  swept = λ before e later is. swept_died shared script before e later o shaped (split shared script history before e later run is);
+      let all = run-dead script (boot_in shared script) (before ++ e ∷ []) o s.run in
+      let front = run-dead script (boot_in shared script) before o s.front in
+      let undead = not_dead shared script shaped o in
+      let le = dead_le (object_of (after_from script (boot_in shared script) (before ++ e ∷ [])) o) in
+      let more = one_more before e o in
+      elim (cases_lt 0 (removals e.effects o)) as (λ _. deaths (effects_of (before ++ e ∷ [])) o ≤ removals (effects_of before) o + 1) [
+        | inl some ↦ let swept = s.step.lives.removes o some in let moved = s.step.lives.deads o in omega arith
+        | inr quiet ↦ omega arith
+      ];
+  swept = λ before e later is.
+      let s = split shared script history before e later run is in
+      let front = run-dead script (boot_in shared script) before o s.front in
+      let undead = not_dead shared script shaped o in
+      let more = one_more before e o in
+      let moved = s.step.lives.deads o in
+      elim (cases_lt 0 (removals e.effects o)) as (λ _. removals (effects_of (before ++ e ∷ [])) o ≤ deaths (effects_of before) o) [
+        | inl some ↦ let swept = s.step.lives.removes o some in omega arith
+        | inr quiet ↦ omega arith
+      ];
   closed = λ before e until later is dead unswept.
-      let none = (has_one_life shared script history run o).closed before e (until ++ later) is dead in
-      let same = ap (λ (l : List Effect). pluses l o) (effects-append until later) in
-      let both = pluses-append (effects_of until) (effects_of later) o in omega arith;
+      let s = split shared script history before e (until ++ later) run is in
+      let T = after_from script (boot_in shared script) (before ++ e ∷ []) in
+      run-closed script T until o (run-front script T until later s.rest) (dead_then shared script before e (until ++ later) o s dead).0 unswept;
+}
+  where
+    one_more : (before : List Entry) (e : Entry) (o : ObjNo)
+        → removals (effects_of (before ++ e ∷ [])) o ≡ removals (effects_of before) o + removals e.effects o
+    one_more before e o =
+        let same = ap (λ (l : List Effect). removals l o) (effects-append before (e ∷ [])) in
+        let both = removals-append (effects_of before) (effects_of (e ∷ [])) o in
+        let last = removals-append e.effects [] o in omega arith
+
+-- where numbers aren't used again it has one life
+has_one_life : (shared : Bool) (script : Script) (history : List Entry) → IsSoundRun script (boot_in shared script) history
+    → uses_again script.version ≡ false → (o : ObjNo) → HasOneLife history o
+has_one_life shared script history run first o = record {
+  dies =
+      let a = run-gone script (boot_in shared script) history o first run in
+      let b = gone_le (after_from script (boot_in shared script) history).references.objects o in omega arith;
+  closed = λ before e later is dead.
+      let s = split shared script history before e later run is in
+      let S = after_from script (boot_in shared script) before in
+      let T = after_from script (boot_in shared script) (before ++ e ∷ []) in
+      let reuse = run-reuse script (boot_in shared script) before s.front ∙ first in
+      let moved = (s.step.lives.once reuse).stays o in
+      let le = gone_le T.references.objects o in
+      run-unopened script T later o (run-reuse script (boot_in shared script) (before ++ e ∷ []) s.run ∙ first) s.rest (omega arith);
 }
 
 -- each Plus names a holder that doesn't hold the object then, and each Minus one that does
@@ -152,11 +173,12 @@ run-holders shared script history shaped run =
 
 -- a sound run from boot is safe
 pub run-safe : (shared : Bool) (script : Script) (history : List Entry) → IsShaped script
-    → IsSoundRun script (boot_in shared script) history → ((o : ObjNo) → DiesAtZero shared script history o)
+    → IsSoundRun script (boot_in shared script) history → ((o : ObjNo) → DiesOnlyAtZero script history o)
+    → ((o : ObjNo) → DiesAtZero shared script history o)
     → ((o : ObjNo) → MissesTheDead history o) → IsSafeReferences shared script history
-run-safe shared script history shaped run always missed = record {
+run-safe shared script history shaped run only always missed = record {
   holders = run-holders shared script history shaped run;
-  only = dies_only_at_zero shared script history run;
+  only = only;
   always = always;
   lives = dies_once shared script history shaped run;
   missed = missed;

@@ -9,6 +9,7 @@ pub mod EffectSums
 pub mod Fated
 pub mod Finished
 pub mod Founding
+pub mod Freed
 pub mod Giving
 pub mod Joining
 pub mod Keeps

@@ -4,7 +4,6 @@ use Rattle.std.specs.Prelude.{◌&&◌, ◌||◌, not}
 use Rattle.script_types.specs.declared.script.Script.{Script}
 use Rattle.entry_log.specs.declared.entry.Entry.{Entry}
 use Rattle.state_rows.specs.declared.object.ObjectRow.{ObjectRow}
-use Rattle.machine.specs.declared.mode.Mode.{Mode}
 use Rattle.machine.specs.declared.state.State.{State}
 use Rattle.machine.specs.Boot.{boot}
 use Rattle.entry_log.specs.declared.entry.FinalRow.{FinalRow}
@@ -15,15 +14,16 @@ use Rattle.machine.specs.Task.{is_able}
 use Rattle.machine.specs.Transition.{Transition}
 use Rattle.machine_laws.proofs.Sharing.Acted.{able-mode, can-mode, transition-mode}
 use Rattle.machine_laws.proofs.Reached.Modes.{choosing-alone, mode-next}
-use Rattle.machine_laws.proofs.Sharing.Moved.{in_mode, IsAlone, TellsNoDeath}
+use Rattle.machine_laws.proofs.Sharing.Moved.{alone-like, in_mode, IsAlone, TellsNoDeath}
 use Rattle.machine_safe.specs.SharedReading.{HasSameRows, IsSharedToo}
 
 -- one caller alone has no choice, and stays alone
 unchosen : (e : Entry) (S : State) → IsAlone S → choosing e S ≡ S
-unchosen e S alone = choosing-alone S e (ap (λ (m : Mode). m.shared) alone) (ap (λ (m : Mode). m.keep) alone)
+unchosen e S alone = choosing-alone S e alone.0 alone.1
 
 alone-next : (script : Script) (e : Entry) (S : State) → IsAlone S → IsAlone (next_by script S e)
-alone-next script e S alone = mode-next script (choosing e S) e.actor ∙ ap (λ (T : State). T.mode) (unchosen e S alone) ∙ alone
+alone-next script e S alone =
+    alone-like S (next_by script S e) (mode-next script (choosing e S) e.actor ∙ ap (λ (T : State). T.mode) (unchosen e S alone)) alone
 
 alone-after : (script : Script) (S : State) (es : List Entry) → IsAlone S → IsAlone (after_from script S es)
 alone-after script S [] alone = alone
@@ -99,8 +99,8 @@ pub shared-too : (script : Script) (history : List Entry) → IsLegal script his
 shared-too script history legal =
     let S = boot script in
     let T = after script history in
-    let r = after-mode script false S 1 history refl legal in record {
-      shared = legal-mode script false S 1 history refl legal;
-      rows = subst (HasSameRows script T) (sym r.1) (same_rows script r.0 T (alone-after script S history refl));
+    let r = after-mode script false S 1 history (refl, refl) legal in record {
+      shared = legal-mode script false S 1 history (refl, refl) legal;
+      rows = subst (HasSameRows script T) (sym r.1) (same_rows script r.0 T (alone-after script S history (refl, refl)));
       left = ap final_rows r.1 ∙ left-mode r.0 T 0 T.references.objects;
     }

@@ -11,11 +11,12 @@ use Rattle.entry_log.specs.declared.entry.Actor.{Actor}
 use Rattle.entry_log.specs.declared.entry.Actor.TheVariants.{Thread, Irq, Idfc, Tick, Idle}
 use Rattle.entry_log.specs.declared.entry.Entry.{Entry}
 use Rattle.state_rows.specs.declared.thread.ThreadRow.{ThreadRow}
+use Rattle.state_rows.specs.ObjectRows.{place_of}
 use Rattle.machine.specs.declared.state.State.{State}
 use Rattle.machine.specs.Boot.{boot_in}
 use Rattle.machine.specs.History.{after_from, after_in, choosing, is_deathless, next_by, IsShared}
 use Rattle.machine.specs.Out.{is_returning, part_of}
-use Rattle.machine.specs.Rows.{thread_of}
+use Rattle.machine.specs.Rows.{object_of, thread_of}
 use Rattle.machine.specs.SharedRun.{is_return, slots_taken, IsSharedPart, IsSharedRun}
 use Rattle.move_laws.proofs.References.Same.{same_object}
 use Rattle.machine_laws.proofs.Reached.AfterHistory.{rows-keeping}
@@ -68,12 +69,12 @@ comes-next-all script history valid legal before find between back later t o is 
     let first = stands-rest script shaped (boot_in true script) 1 before (find ∷ between ++ back ∷ later) all in
     let S = after_in true script before in
     let T = next_by script S find in
-    let out = (turns script shaped S first.0 find (between ++ back ∷ later) first.1).own t o (ap (is_by t) by_find ∙ eq-eqb t.0 t.0 refl) in
+    let out = (turns script shaped S first.0 find (between ++ back ∷ later) first.1).found t o (ap (is_by t) by_find ∙ eq-eqb t.0 t.0 refl) found in
     let behind = stands-next script shaped S first.0 find (between ++ back ∷ later) first.1 in
-    let still = out-still script shaped T (first.0 + 1) between (back ∷ later) behind t o none in
+    let still = out-still script shaped T (first.0 + 1) between (back ∷ later) behind t o (place_of (object_of S o)) none in
     let last = stands-rest script shaped T (first.0 + 1) between (back ∷ later) behind in
     let U = after_from script T between in
-    let on = out-on U t o (omega arith) in
+    let on = out-on U t o (place_of (object_of S o)) (omega arith) in
     returns-here script shaped U last.0 back later last.1
     ∙ acts U back.actor (ap (λ (r : Option ThreadRow). is_returning (part_of r)) on.is ∙ on.returns) by_back
   where

@@ -1,5 +1,5 @@
 -- The definition of safe busy answers, tried on a session with one slot: a `send` that is accepted, and one that isn't while that is outstanding;
--- and five histories, changed by hand, that aren't safe.
+-- and six histories, changed by hand, that aren't safe.
 use Rattle.entry_log.specs.declared.effect.Effect.TheVariants as effect
 use Rattle.entry_log.specs.declared.effect.Holder.TheVariants as holder
 use Rattle.entry_log.specs.declared.step.Part.TheVariants as part
@@ -7,13 +7,12 @@ use Rattle.entry_log.specs.declared.step.Step.TheVariants as step
 use Rattle.sym_base.specs.declared.word.Word.TheVariants as word
 use Rattle.entry_log.specs.declared.entry.Entry.{Entry}
 use Rattle.machine.specs.Boot.{boot_of}
-use Rattle.machine_safe.proofs.ServedHistory.{closes, connects, links_elsewhere, acts, connected, first_end, joins, number, sends, served_script, serves}
+use Rattle.machine_safe.proofs.ServedHistory.{closes, connects, links_elsewhere, acts, connected, first_end, joins, number, sends, served_script, serves, stops}
 use Rattle.machine_safe.specs.SafeBusy.{IsSafeBusy, IsSendAnswer, accepted_of, accepts_in, is_full_in}
-use Rattle.machine_safe.specs.Served.{server_in}
 use Rattle.machine_safe.specs.Slotted.{looked_in, slots_in}
 use Rattle.std.proofs.Common.{List, None, Some, [], arith, refl, subst, sym, ℕ, ◌++◌, ◌∷◌, ◌≡◌}
 use Rattle.sym_base.specs.ErrorCode.{error_code}
-use Rattle.sym_base.specs.declared.error.Error.TheVariants.{ServerBusy}
+use Rattle.sym_base.specs.declared.error.Error.TheVariants.{ServerBusy, ServerTerminated}
 use Rattle.sym_base.specs.declared.number.ObjNo.{ObjNo}
 
 -- the client's look finds its session
@@ -40,7 +39,7 @@ is_busy = record { thread = number 5; actor = refl; session = number 7; looked =
 
 -- how many messages a `send` over the session accepts, as told
 abbrev wanted : List Entry → ObjNo → ℕ
-wanted before s = accepted_of (accepts_in before (server_in before s)) (is_full_in served_script before s (slots_in served_script before s))
+wanted before s = accepted_of (accepts_in before s) (is_full_in served_script before s (slots_in served_script before s))
 
 -- No `send` is refused as busy with a slot left.
 busy_with_slot : IsSafeBusy served_script (with_slot ++ is_refused 7 ∷ []) → ⊥
@@ -103,3 +102,20 @@ sent_to_closing safe =
     let session : Some (number 7) ≡ Some a.session = subst (λ (u : ObjNo). looked_in closed_away u ≡ Some a.session) (sym thread) a.looked in
     let own : number 7 ≡ a.session = cc in
     let none : ◌≡◌ {A = ℕ} 1 0 = subst (λ (s : ObjNo). 1 ≡ wanted closed_away s) (sym own) a.accepted in absurd (omega arith)
+
+-- Nor is one to a server that ended, where another has its number since: the session is at none.
+abbrev made_anew : List Entry
+made_anew = with_slot ++ closes 7 ∷ stops ∷ serves ∷ looks 10 ∷ []
+
+refused_anew : IsSendAnswer served_script made_anew (acts 11 5 (step.Of word.Send part.Do) [] (Some (error_code ServerTerminated)))
+unfolding boot_of
+refused_anew = record { thread = number 5; actor = refl; session = number 7; looked = refl; answer = refl; accepted = refl }
+
+sent_to_another : IsSafeBusy served_script (made_anew ++ sends 11 2 ∷ []) → ⊥
+unfolding boot_of
+sent_to_another safe =
+    let a = safe.answers made_anew (sends 11 2) [] refl refl in
+    let thread : number 5 ≡ a.thread = cc in
+    let session : Some (number 7) ≡ Some a.session = subst (λ (u : ObjNo). looked_in made_anew u ≡ Some a.session) (sym thread) a.looked in
+    let own : number 7 ≡ a.session = cc in
+    let none : ◌≡◌ {A = ℕ} 1 0 = subst (λ (s : ObjNo). 1 ≡ wanted made_anew s) (sym own) a.accepted in absurd (omega arith)

@@ -19,7 +19,7 @@ use Rattle.machine_safe.specs.CountAfter.{effects_of, is_by}
 use Rattle.machine_safe.specs.SafeDeaths.{dooms}
 use Rattle.machine_safe.specs.SafeMessages.{IsSafeMessages, notice, code_of_complete}
 use Rattle.machine_safe.specs.Sent.{Accepts, accepts, accepts_by, instruction_in, status_by, WasAccepted}
-use Rattle.machine_safe.specs.Served.{ends_in, owner_in, server_in, is_closing_in}
+use Rattle.machine_safe.specs.Served.{ends_in, is_closing_in, is_remade, owner_in, server_in}
 use Rattle.machine_safe.proofs.ServedHistory.{served_script, number, message, acts, accepted, serves, joins, connects, completes, first_end, connected, sends, closes, stops, opens, links_elsewhere, AtEach, at-each, other_told, number_told}
 use Rattle.machine_safe.proofs.Runs.{effects-append}
 use Rattle.machine_safe.proofs.Deaths.EffectSums.{dooms-append}
@@ -207,6 +207,20 @@ accepted_ended script safe =
     (λ (x : ObjNo). server_in (opens ++ first_end ∷ connected ∷ stops ∷ []) x ≡ Some a.server) (sym session) a.linked in
     let own : number 6 ≡ a.server = cc in
     let lasts : ◌≡◌ {A = ℕ} 1 0 = subst (λ (v : ObjNo). ends_in (opens ++ first_end ∷ connected ∷ stops ∷ []) v ≡ 0) (sym own) a.lasts in absurd (omega arith)
+
+-- Nor by another that has its number since.
+accepted_anew : (script : Script) → IsSafeMessages script (opens ++ first_end ∷ connected ∷ stops ∷ serves ∷ sends 7 2 ∷ []) → ⊥
+unfolding second_object
+accepted_anew script safe =
+    let a = safe.acceptances (opens ++ first_end ∷ connected ∷ stops ∷ serves ∷ []) (sends 7 2) [] refl (omega arith) in
+    let session : number 7 ≡ a.by.session = ap second_object a.by.told in
+    let server : Some (number 6) ≡ Some a.server = subst
+    (λ (x : ObjNo). server_in (opens ++ first_end ∷ connected ∷ stops ∷ serves ∷ []) x ≡ Some a.server) (sym session) a.linked in
+    let own : number 6 ≡ a.server = cc in
+    let first : is_remade (opens ++ first_end ∷ connected ∷ stops ∷ serves ∷ []) a.by.session (number 6) ≡ false =
+    subst (λ (v : ObjNo). is_remade (opens ++ first_end ∷ connected ∷ stops ∷ serves ∷ []) a.by.session v ≡ false) (sym own) a.same in
+    let same : true ≡ false = subst
+    (λ (x : ObjNo). is_remade (opens ++ first_end ∷ connected ∷ stops ∷ serves ∷ []) x (number 6) ≡ false) (sym session) first in cc
 
 -- No message is finished that wasn't accepted,
 abbrev never_accepted : List Entry → Entry → Type 0

@@ -4,13 +4,13 @@ use Rattle.sym_base.specs.declared.number.ObjNo.{ObjNo}
 use Rattle.sym_base.specs.declared.word.Word.TheVariants as word
 use Rattle.script_types.specs.declared.script.Script.{Script}
 use Rattle.entry_log.specs.declared.effect.Effect.{Effect}
-use Rattle.entry_log.specs.declared.effect.Effect.TheVariants.{Plus, Minus, Dead, Swept}
+use Rattle.entry_log.specs.declared.effect.Effect.TheVariants.{Plus, Minus, Dead, Seek, Swept}
 use Rattle.entry_log.specs.declared.effect.Holder.TheVariants.{InProcess}
 use Rattle.entry_log.specs.declared.entry.Actor.TheVariants.{Thread}
 use Rattle.entry_log.specs.declared.entry.Entry.{Entry}
 use Rattle.entry_log.specs.declared.step.Part.TheVariants as part
 use Rattle.entry_log.specs.declared.step.Step.TheVariants.{Of}
-use Rattle.machine.specs.Boot.{boot}
+use Rattle.machine.specs.Boot.{boot, uses_again}
 use Rattle.machine.specs.References.{count_of}
 use Rattle.machine_safe.specs.SafeReferences.{IsSafeReferences}
 
@@ -33,9 +33,9 @@ ends place = acts place (Minus (InProcess (number 2) 0) (number 5) ∷ Dead (num
 abbrev pub sweeps : ℕ → Entry
 sweeps place = acts place (Swept (number 5) ∷ [])
 
--- it doesn't die twice
-died_twice : (shared : Bool) (script : Script) → IsSafeReferences shared script (ends 1 ∷ ends 2 ∷ []) → ⊥
-died_twice shared script safe = let few : 2 ≤ 1 = (safe.once (number 5)).dies in omega arith
+-- it doesn't die twice, where numbers aren't used again
+died_twice : (shared : Bool) (script : Script) → uses_again script.version ≡ false → IsSafeReferences shared script (ends 1 ∷ ends 2 ∷ []) → ⊥
+died_twice shared script first safe = let few : 2 ≤ 1 = (safe.once first (number 5)).dies in omega arith
 
 -- nor twice in one life
 died_again : (shared : Bool) (script : Script) → IsSafeReferences shared script (ends 1 ∷ ends 2 ∷ []) → ⊥
@@ -58,10 +58,19 @@ opened_late shared script safe =
     let none : ◌≡◌ {A = ℕ} 1 0 = (safe.lives (number 5)).closed [] (ends 1) (opens 2 ∷ []) [] refl (omega arith) refl in
     omega arith
 
-opened_swept : (shared : Bool) (script : Script) → IsSafeReferences shared script (ends 1 ∷ sweeps 2 ∷ opens 3 ∷ []) → ⊥
-opened_swept shared script safe =
-    let none : ◌≡◌ {A = ℕ} 1 0 = (safe.once (number 5)).closed [] (ends 1) (sweeps 2 ∷ opens 3 ∷ []) refl
+opened_swept : (shared : Bool) (script : Script) → uses_again script.version ≡ false
+    → IsSafeReferences shared script (ends 1 ∷ sweeps 2 ∷ opens 3 ∷ []) → ⊥
+opened_swept shared script first safe =
+    let none : ◌≡◌ {A = ℕ} 1 0 = (safe.once first (number 5)).closed [] (ends 1) (sweeps 2 ∷ opens 3 ∷ []) refl
     (omega arith) in
+    omega arith
+
+-- and who found it before its sweep doesn't open what has its number since
+opened_next : (shared : Bool) (script : Script)
+    → IsSafeReferences shared script (acts 1 (Seek (number 5) ∷ []) ∷ record (sweeps 2) { actor = Thread (number 4) } ∷ opens 3 ∷ []) → ⊥
+opened_next shared script safe =
+    let none : ◌≡◌ {A = ℕ} 1 0 = safe.missed (number 5) [] (acts 1 (Seek (number 5) ∷ [])) (record (sweeps 2) { actor = Thread (number 4) } ∷ [])
+    (opens 3) [] (number 3) refl refl (omega arith) refl refl (omega arith) (number 5) in
     omega arith
 
 -- its row goes once, and not before

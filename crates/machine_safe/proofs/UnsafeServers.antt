@@ -80,3 +80,13 @@ cleaned_unfinished safe =
     let done : ◌≡◌ {A = ℕ} 0 1 = safe.finished early_stop owner_is_cleaned [] (number 3) (number 6) refl
     (omega arith) refl (message 1) early_accept refl in
     absurd (omega arith)
+
+-- Nor does another server get its number before it ended, or before its messages are finished.
+made_anew_early : IsSafeServers (serves ∷ serves ∷ []) → ⊥
+made_anew_early safe = let over : 0 < 0 = (safe.remade (serves ∷ []) serves [] (number 3) (number 6) refl refl refl).0 in absurd (omega arith)
+
+made_anew_unfinished : IsSafeServers (early_stop ++ serves ∷ []) → ⊥
+made_anew_unfinished safe =
+    let done : ◌≡◌ {A = ℕ} 0 1 = (safe.remade early_stop serves [] (number 3) (number 6) refl refl refl).1
+    (message 1) early_accept refl in
+    absurd (omega arith)

@@ -11,7 +11,7 @@ use Rattle.entry_log.specs.declared.entry.Actor.TheVariants.{Thread}
 use Rattle.entry_log.specs.declared.entry.Entry.{Entry}
 use Rattle.machine.specs.References.{count_of, pluses, minuses}
 use Rattle.machine.specs.Boot.{boot}
-use Rattle.machine.specs.Told.{finds}
+use Rattle.machine.specs.Told.{finds, removals}
 use Rattle.machine.specs.Holding.{same_pair}
 
 -- the effects of entries, in order
@@ -49,9 +49,20 @@ abbrev pub finds_to_open : List Entry → List Entry → ObjNo → ℕ
 finds_to_open [] later o = 0
 finds_to_open (e ∷ es) later o = (if opens_later e.actor es later o then finds e.effects o else 0) + finds_to_open es later o
 
+-- the entries behind the last one that says that the object's row went, all where none does: with these the life of its number begins that is the
+-- last among them
+abbrev pub since_swept : List Entry → ObjNo → List Entry
+since_swept [] o = []
+since_swept (e ∷ es) o = if nat_lt 0 (removals (effects_of (e ∷ es)) o) then since_swept es o else e ∷ es
+
+-- how many references the object has before these: those at boot, where its number wasn't another's since
+abbrev pub count_before : Script → List Entry → ObjNo → ℕ
+count_before script es o = if nat_lt 0 (removals (effects_of es) o) then 0 else count_of (boot script) o
+
 -- The count of an object after the first entries of a history, the later ones being the rest of it: the references at
 -- boot, with those that effects add and without those that they take away, and with one for each find whose return
--- comes later and opens the object.
+-- comes later and opens the object; but of all these only what stands behind the last sweep of its number.
 abbrev pub count_after : Script → List Entry → List Entry → ObjNo → ℕ
 count_after script first later o =
-    count_of (boot script) o + pluses (effects_of first) o - minuses (effects_of first) o + finds_to_open first later o
+    count_before script first o + pluses (effects_of (since_swept first o)) o - minuses (effects_of (since_swept first o)) o
+    + finds_to_open (since_swept first o) later o

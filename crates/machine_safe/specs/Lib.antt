@@ -1,4 +1,5 @@
 pub mod CountAfter
+pub mod DoomedAble
 pub mod FindsAndReturns
 pub mod IdleChoice
 pub mod Laws

@@ -19,10 +19,10 @@ use Rattle.entry_log.specs.declared.step.Step.TheVariants as step
 use Rattle.machine_safe.specs.CountAfter.{effects_of, is_by}
 use Rattle.machine_safe.specs.SafeDeaths.{StandsAt, dooms}
 use Rattle.machine_safe.specs.Sent.{Accepts, WasAccepted, accepts, accepts_by, finishes, instruction_in, status_by}
-use Rattle.machine_safe.specs.Served.{ends, ends_in, is_closing_in, owner_in, server_in}
+use Rattle.machine_safe.specs.Served.{ends, ends_in, is_closing_in, is_remade, owner_in, server_in}
 
 -- An acceptance: messages are numbered 1, 2 and so on, an entry accepts one at most, which the acting thread sends, in a step that accepts, with
--- the status that its instruction names; and the session's server isn't closing before it, and has not ended.
+-- the status that its instruction names; and the session's server isn't closing before it, and has not ended, and its number isn't another's since.
 pub record IsAcceptance (script : Script) (before : List Entry) (e : Entry) : Type 0 where
   pub message : MsgNo
   pub by : Accepts e message
@@ -32,6 +32,7 @@ pub record IsAcceptance (script : Script) (before : List Entry) (e : Entry) : Ty
   pub step : accepts_by e.step (status_by e.step (instruction_in script before by.client)) ≡ true
   pub server : ObjNo
   pub linked : server_in before by.session ≡ Some server
+  pub same : is_remade before by.session server ≡ false
   pub accepting : is_closing_in before server ≡ false
   pub lasts : ends_in before server ≡ 0
 
@@ -50,13 +51,14 @@ abbrev pub notice : Option StatusNo → Bool → ObjNo → ℤ → List Effect
 notice (Some status) false client code = effect.Signal client status code ∷ []
 notice _ doomed client code = []
 
--- The end of a message: it was accepted and isn't finished yet, the owner of the server that its session was at then finishes it, with the code of its
--- instruction or as the server is closing; and beside it stands what its client is told, and nothing else.
+-- The end of a message: it was accepted and isn't finished yet, the owner of the server that its session was at then, whose number isn't another's
+-- since, finishes it, with the code of its instruction or as the server is closing; and beside it stands what its client is told, and nothing else.
 pub record IsFinish (script : Script) (before : List Entry) (e : Entry) (m : MsgNo) : Type 0 where
   pub accepted : WasAccepted before m
   pub once : finishes (effects_of before) m ≡ 0
   pub server : ObjNo
   pub linked : server_in accepted.before accepted.by.session ≡ Some server
+  pub same : owner_in (accepted.at ∷ accepted.later) server ≡ None
   pub owner : ObjNo
   pub owns : owner_in before server ≡ Some owner
   pub actor : e.actor ≡ Thread owner

@@ -1,9 +1,11 @@
--- Safe references: an object dies exactly where its last reference goes, and nobody opens it afterwards.
-use Rattle.std.specs.Prelude.{◌≡◌, ◌+◌, ◌<◌, ◌≤◌, ◌⊎◌, Bool, true, List, [], ◌∷◌, ◌++◌, None}
+-- Safe references: an object dies exactly where its last reference goes, and nobody opens it afterwards, also where its number is another object's
+-- since. An object is a number within one of its lives, which end with the sweeps of its row.
+use Rattle.std.specs.Prelude.{◌≡◌, ◌+◌, ◌<◌, ◌≤◌, ◌⊎◌, Bool, true, false, List, [], ◌∷◌, ◌++◌, None}
 use Rattle.sym_base.specs.declared.number.ObjNo.{ObjNo}
 use Rattle.script_types.specs.declared.script.Script.{Script}
 use Rattle.entry_log.specs.declared.entry.Actor.TheVariants.{Thread}
 use Rattle.entry_log.specs.declared.entry.Entry.{Entry}
+use Rattle.machine.specs.Boot.{uses_again}
 use Rattle.machine.specs.References.{pluses, minuses}
 use Rattle.machine.specs.Told.{deaths, finds, removals}
 use Rattle.machine.specs.Holding.{EachFitsHolders, held_at_boot}
@@ -30,15 +32,15 @@ pub record DiesOnceALife (history : List Entry) (o : ObjNo) : Type 0 where
   pub closed : (before : List Entry) (e : Entry) (until later : List Entry) → history ≡ before ++ e ∷ (until ++ later)
       → 0 < deaths e.effects o → removals (effects_of until) o ≡ 0 → pluses (effects_of until) o ≡ 0
 
--- Who found it before its death opens nothing as he comes back.
+-- Who found it before its death, or before its sweep, opens nothing as he comes back.
 abbrev pub MissesTheDead : List Entry → ObjNo → Type 0
 MissesTheDead history o =
     (before : List Entry) (find : Entry) (between : List Entry) (back : Entry) (later : List Entry) (t : ObjNo)
     → history ≡ before ++ find ∷ between ++ back ∷ later →
     find.actor ≡ Thread t → 0 < finds find.effects o → first_by t between ≡ None → is_by t back.actor ≡ true
-    → 0 < deaths (effects_of between) o → (x : ObjNo) → pluses back.effects x ≡ 0
+    → 0 < deaths (effects_of between) o + removals (effects_of between) o → (x : ObjNo) → pluses back.effects x ≡ 0
 
--- No number is used again, so it has one life: it dies once at most, and after that no entry adds a reference to it.
+-- Where no number is used again it has one life: it dies once at most, and after that no entry adds a reference to it.
 pub record HasOneLife (history : List Entry) (o : ObjNo) : Type 0 where
   pub dies : deaths (effects_of history) o ≤ 1
   pub closed : (before : List Entry) (e : Entry) (later : List Entry) → history ≡ before ++ e ∷ later → 0 < deaths e.effects o → pluses (effects_of later) o ≡ 0
@@ -50,7 +52,8 @@ pub record IsSafeReferences (shared : Bool) (script : Script) (history : List En
   pub only : (o : ObjNo) → DiesOnlyAtZero script history o
   -- and always where it goes, unless somebody is left out on it
   pub always : (o : ObjNo) → DiesAtZero shared script history o
-  -- it dies once a life, nobody opens it between its death and its sweep, also who found it before, and it has one life
+  -- it dies once a life, nobody opens it between its death and its sweep, also who found it before; and where numbers aren't used again, it has
+  -- one life
   pub lives : (o : ObjNo) → DiesOnceALife history o
   pub missed : (o : ObjNo) → MissesTheDead history o
-  pub once : (o : ObjNo) → HasOneLife history o
+  pub once : uses_again script.version ≡ false → (o : ObjNo) → HasOneLife history o

@@ -57,6 +57,15 @@ abbrev pub since : List Entry → ObjNo → List Entry
 since [] v = []
 since (e ∷ es) v = if is_some (owner_in es v) then since es v else e ∷ es
 
+-- The entries behind the last that made a session of a number, or all where none did. A server that was made with the number of its server since is
+-- another one: the session's server has ended.
+abbrev pub since_joined : List Entry → ObjNo → List Entry
+since_joined [] s = []
+since_joined (e ∷ es) s = if is_some (server_in (e ∷ es) s) then since_joined es s else e ∷ es
+
+abbrev pub is_remade : List Entry → ObjNo → ObjNo → Bool
+is_remade es s v = is_some (owner_in (since_joined es s) v)
+
 -- how often handles of an object go
 abbrev pub handles_lost : List Effect → ObjNo → ℕ
 handles_lost [] v = 0

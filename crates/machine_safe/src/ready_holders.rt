@@ -4,6 +4,7 @@ ghost use Rattle.script_types.specs.Source.{IsWellFormed};
 ghost use Rattle.machine.specs.Arrived.{arrived_in};
 ghost use Rattle.machine.specs.Choice.{chosen};
 ghost use Rattle.machine.specs.History.{after_in, CanAct};
+ghost use Rattle.machine_safe.specs.DoomedAble.{AreDoomedAble};
 ghost use Rattle.machine_safe.specs.IdleChoice.{IsIdleChoice};
 ghost use Rattle.machine_safe.specs.ReadyHolders.{AreHoldersReadyIn};
 
@@ -26,4 +27,12 @@ pub fn holders_are_ready(script: &Script, history: &[Entry])
 pub fn idle_is_chosen(script: &Script, history: &[Entry])
     requires valid { IsWellFormed script.now }
     ensures { (shared : Bool) → IsIdleChoice shared script.now history.now }
+{}
+
+/// After every such history of a well-formed script each doomed thread that isn't out is able to act: it waits for
+/// nothing, nothing stops it, and it wants no fast mutex that is held. So the action by which it is reaped can be made.
+/// This call only states it, and changes nothing.
+pub fn doomed_are_able(script: &Script, history: &[Entry])
+    requires valid { IsWellFormed script.now }
+    ensures { (shared : Bool) → AreDoomedAble shared script.now history.now }
 {}

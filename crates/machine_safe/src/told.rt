@@ -4,7 +4,7 @@ ghost use Rattle.script_types.specs.Source.{IsWellFormed as IsWellFormedScript};
 ghost use Rattle.machine.specs.Arrived.{arrived_in};
 ghost use Rattle.machine.specs.History.{after_in, IsLegal, IsLegalIn};
 ghost use Rattle.machine.specs.WellFormed.{IsWellFormed};
-ghost use Rattle.machine_safe.specs.Laws.{HoldersAreTold, HoldersAreUnique, TellsZero};
+ghost use Rattle.machine_safe.specs.Laws.{HoldersAreTold, HoldersAreUnique, LeavesNothing, TellsZero};
 
 use entry_log::Entry;
 use script_types::Script;
@@ -16,6 +16,14 @@ use script_types::Script;
 pub fn state_is_well_formed(script: &Script, history: &[Entry])
     requires valid { IsWellFormedScript script.now }
     ensures formed { (shared : Bool) → IsWellFormed script.now (after_in shared script.now history.now) (arrived_in shared script.now history.now) }
+{}
+
+/// Of a number that no object has nothing is left, but what the history told of it: it is no thread, no server and no
+/// session, nothing refers to it, nobody owns it or waits for it, it counts nothing, and no sweep of it is owed. So where a
+/// number is used again, its new object begins as the first one did. This call only states it, and changes nothing.
+pub fn nothing_is_left(script: &Script, history: &[Entry])
+    requires valid { IsWellFormedScript script.now }
+    ensures { (shared : Bool) → LeavesNothing shared script.now history.now }
 {}
 
 /// After every legal history of a well-formed script each holder holds what the effects tell, and no reference twice.

@@ -133,3 +133,7 @@ after_signal r o answer = record r {
 -- the thread waits for nothing
 abbrev pub after_remove : LockRows → ObjNo → LockRows
 after_remove r t = record r { waiters = map (without t) r.waiters }
+
+-- nobody owns the object or waits for it, and its count is 0
+abbrev pub after_sweep : LockRows → ObjNo → LockRows
+after_sweep r o = record { owners = slice_set r.owners o.0 None; counts = slice_set r.counts o.0 0; waiters = slice_set r.waiters o.0 [] }

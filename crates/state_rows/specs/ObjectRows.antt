@@ -1,5 +1,5 @@
 -- Rows of objects: none where the object isn't made or is swept.
-use Rattle.std.specs.Prelude.{Bool, false, true, not, ◌&&◌, ◌==◌, List, ℕ, Option, Some, None, position}
+use Rattle.std.specs.Prelude.{◌+◌, nat_lt, if◌then◌else◌, Bool, false, true, not, ◌&&◌, ◌==◌, List, [], ◌∷◌, ◌++◌, length, slice_set, ℕ, Option, Some, None, position}
 use Rattle.std.specs.List.{list_any}
 use Rattle.sym_base.specs.declared.number.ObjNo.{ObjNo}
 use Rattle.std.specs.Str.{bytes_eq}
@@ -26,6 +26,25 @@ is_dead_row (Some row) = row.dead
 abbrev pub dead_row : Option ObjectRow → Option ObjectRow
 dead_row None = None
 dead_row (Some row) = Some (record row { dead = true })
+
+-- how many objects were made before it, 0 where there is none
+abbrev pub place_of : Option ObjectRow → ℕ
+place_of None = 0
+place_of (Some row) = row.place
+
+-- the least number without an object
+abbrev pub first_free : List (Option ObjectRow) → ℕ
+first_free [] = 0
+first_free (None ∷ rest) = 0
+first_free (Some row ∷ rest) = 1 + first_free rest
+
+-- the number of the next object: the least without one where numbers are used again, else the next
+abbrev pub next_number : Bool → List (Option ObjectRow) → ℕ
+next_number reuse rows = if reuse then first_free rows else length rows
+
+-- the rows with that of a new object at a number that has none, or that comes next
+abbrev pub with_object : List (Option ObjectRow) → ℕ → ObjectRow → List (Option ObjectRow)
+with_object rows n row = if nat_lt n (length rows) then slice_set rows n (Some row) else rows ++ Some row ∷ []
 
 -- whether an unswept object has the kind and the name, which no session has
 abbrev pub is_taken : Kind → List ℕ → List (Option ObjectRow) → Bool

@@ -2,6 +2,8 @@
 use Rattle.std.specs.Prelude.{◌≡◌, ℕ, Bool, true, false, not, ◌==◌, List, [], ◌∷◌, ◌++◌, Option, Some, None, option_map, filter, replicate, slice_index_or, slice_set}
 use Rattle.sym_base.specs.declared.number.ObjNo.{ObjNo}
 use Rattle.sym_base.specs.declared.kind.Slots.{Slots}
+use Rattle.state_rows.specs.declared.servers.Connection.{Connection}
+use Rattle.state_rows.specs.declared.servers.Connection.TheVariants.{New, Open, Closed}
 use Rattle.state_rows.specs.declared.servers.ServerRow.{ServerRow}
 use Rattle.state_rows.specs.declared.servers.SessionRow.{SessionRow}
 use Rattle.state_rows.specs.declared.servers.ServerRows.{ServerRows}
@@ -23,7 +25,7 @@ after_add_server rows o owner =
 
 -- the row of a session that isn't open yet
 abbrev pub new_session : ObjNo → Slots → ObjNo → SessionRow
-new_session server slots client = record { server = Some server; slots = slots; client = client; is_open = false }
+new_session server slots client = record { server = Some server; slots = slots; client = client; connection = New }
 
 -- the object is such a session, and no server; it stands behind the server's other sessions
 abbrev pub after_add_session : ServerRows → ObjNo → ObjNo → Slots → ObjNo → ServerRows
@@ -59,8 +61,17 @@ after_detach rows s =
     record rows { sessions = slice_set rows.sessions s.0 (option_map detached (session_at rows s)); linked = unlisted (server_of rows s) s rows.linked }
 
 -- the session was opened, or closed, and keeps the rest of its row
+abbrev pub connected : Bool → Connection
+connected true = Open
+connected false = Closed
+
 abbrev pub opened : Bool → SessionRow → SessionRow
-opened to row = record row { is_open = to }
+opened to row = record row { connection = connected to }
 
 abbrev pub after_set_open : ServerRows → ObjNo → Bool → ServerRows
 after_set_open rows s to = record rows { sessions = slice_set rows.sessions s.0 (option_map (opened to) (session_at rows s)) }
+
+-- the object is no server and no session, and none is linked to it
+abbrev pub after_sweep : ServerRows → ObjNo → ServerRows
+after_sweep rows o =
+    record { servers = slice_set rows.servers o.0 None; sessions = slice_set rows.sessions o.0 None; linked = slice_set rows.linked o.0 [] }

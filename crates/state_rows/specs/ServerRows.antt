@@ -1,7 +1,9 @@
 -- Servers, sessions and their links, as lists.
-use Rattle.std.specs.Prelude.{Bool, false, not, ◌==◌, List, [], Option, None, Some, option_map, slice_index_or, IsSome}
+use Rattle.std.specs.Prelude.{Bool, true, false, not, ◌==◌, List, [], Option, None, Some, option_map, slice_index_or, IsSome}
 use Rattle.std.specs.List.{list_any}
 use Rattle.sym_base.specs.declared.number.ObjNo.{ObjNo}
+use Rattle.state_rows.specs.declared.servers.Connection.{Connection}
+use Rattle.state_rows.specs.declared.servers.Connection.TheVariants.{New, Open}
 use Rattle.state_rows.specs.declared.servers.ServerRow.{ServerRow}
 use Rattle.state_rows.specs.declared.servers.SessionRow.{SessionRow}
 use Rattle.state_rows.specs.declared.servers.ServerRows.{ServerRows}
@@ -45,9 +47,22 @@ abbrev pub server_of : ServerRows → ObjNo → Option ObjNo
 server_of rows s = link_of (session_at rows s)
 
 -- whether a session was opened and not closed since
+abbrev pub is_open : Connection → Bool
+is_open Open = true
+is_open _ = false
+
 abbrev pub was_opened : Option SessionRow → Bool
 was_opened None = false
-was_opened (Some row) = row.is_open
+was_opened (Some row) = is_open row.connection
+
+-- whether a session is to be opened
+abbrev pub is_new : Connection → Bool
+is_new New = true
+is_new _ = false
+
+abbrev pub is_to_open : Option SessionRow → Bool
+is_to_open None = false
+is_to_open (Some row) = is_new row.connection
 
 -- whether there is a server and it isn't closing
 abbrev pub accepts : ServerRows → Option ObjNo → Bool

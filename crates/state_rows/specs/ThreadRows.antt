@@ -20,6 +20,7 @@ new_thread process = record {
   next_instruction = 0;
   part = None;
   found = 0;
+  sought = 0;
   uses = None;
   registers = replicate 8 0;
   messages = replicate 8 0;

@@ -22,7 +22,7 @@ pub use handle_slot::{
 pub use locks::{LockRows, Locked, MAX_COUNT, Owner, Signalled, Unlocked};
 pub use messages::{Message, MessageRows, MsgRow, Way};
 pub use nano::NanoRows;
-pub use object::{MAX_OBJECTS, ObjectRow, dead_row, has_name, is_dead_row, is_session};
+pub use object::{MAX_OBJECTS, ObjectRow, dead_row, has_name, is_dead_row, is_session, place_of};
 pub use requests::{PENDING, Request, RequestRows, STATUSES};
-pub use servers::{ServerRow, ServerRows, SessionRow};
+pub use servers::{Connection, ServerRow, ServerRows, SessionRow};
 pub use thread::{MEMORY, REGISTERS, Role, Stage, ThreadRow, Waiting};

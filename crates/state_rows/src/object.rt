@@ -1,20 +1,23 @@
 //! Rows of objects.
 ghost use Rattle.std.specs.Prelude.{◌≡◌};
-ghost use Rattle.state_rows.specs.ObjectRows.{is_session, has_name, is_dead_row, dead_row};
+ghost use Rattle.state_rows.specs.ObjectRows.{is_session, has_name, is_dead_row, dead_row, place_of};
 
 use sym_base::{Kind, Name};
 
-/// The most objects that a kernel makes. This project's own limit.
+/// The most objects that a kernel has at once; where no number is used again, the most that it makes. This project's own
+/// limit.
 pub const MAX_OBJECTS: usize = 4096;
 
-/// An object that isn't swept: its kind, its name, and whether its last reference is gone
-/// (Symbian OS Internals, the chapter on kernel services, on kernel objects). The name of a session is
-/// empty.
+/// An object that isn't swept: its kind, its name, whether its last reference is gone, and its place (Symbian OS
+/// Internals, the chapter on kernel services, on kernel objects). The name of a session is empty.
 #[derive(Clone, Copy)]
 pub struct ObjectRow {
     pub kind: Kind,
     pub name: Name,
     pub dead: bool,
+    /// How many objects were made before it. No two objects have one place, also where one has a number that the other
+    /// had before. This project's own rule.
+    pub place: u64,
 }
 
 /// Whether a kind is that of sessions, which have no names.
@@ -41,6 +44,16 @@ pub fn is_dead_row(row: &Option<ObjectRow>) -> bool
     match row {
         Some(row) => row.dead,
         None => false,
+    }
+}
+
+/// How many objects were made before an object, 0 where there is none.
+pub fn place_of(row: &Option<ObjectRow>) -> u64
+    ensures { result ≡ place_of row.now }
+{
+    match row {
+        Some(row) => row.place,
+        None => 0,
     }
 }
 

@@ -11,6 +11,17 @@ pub struct ServerRow {
     pub is_closing: bool,
 }
 
+/// How far a session is.
+#[derive(Clone, Copy, Debug, PartialEq, Eq)]
+pub enum Connection {
+    /// It was made, and the message that connects it isn't accepted yet.
+    New,
+    /// That message was accepted.
+    Open,
+    /// Its handle was closed, or that message was finished with a failure.
+    Closed,
+}
+
 /// What is kept of a session.
 #[derive(Clone, Copy, Debug, PartialEq, Eq)]
 pub struct SessionRow {
@@ -20,9 +31,9 @@ pub struct SessionRow {
     pub slots: Slots,
     /// The thread that made the session.
     pub client: ThreadNo,
-    /// Whether the session was opened and not closed since. Where its server is closing the session isn't
-    /// open whatever this says.
-    pub is_open: bool,
+    /// Whether the session is to be opened, was opened, or was closed since. Where its server is closing the session
+    /// isn't open whatever this says.
+    pub connection: Connection,
 }
 
 /// What the kernel keeps of servers and sessions (Symbian OS Internals, the chapter on inter-process communication): by

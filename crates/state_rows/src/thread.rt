@@ -77,6 +77,8 @@ pub struct ThreadRow {
     /// What the steps of its present instruction found: the number of an object, of a handle, or of bytes that were
     /// copied. The step to come says which.
     pub found: u32,
+    /// The place of the object that a find found. It is read only while the return comes next.
+    pub sought: u64,
     /// The object that its present instruction uses, to which it has a temporary reference.
     pub uses: Option<ObjNo>,
     /// r0 to r7.
@@ -102,6 +104,7 @@ impl ThreadRow {
             next_instruction: 0,
             part: None,
             found: 0,
+            sought: 0,
             uses: None,
             registers: [0; REGISTERS],
             messages: [0; REGISTERS],

@@ -3,7 +3,6 @@ use Rattle.std.proofs.Common.{◌≡◌, inl, inr, ℕ, suc, zero, ◌+◌, ◌<
 use Rattle.std.specs.Prelude.{if◌then◌else◌, ◌||◌}
 use Rattle.std.specs.List.{list_any}
 use Rattle.std.proofs.lemmas.Bool.{eq-eqb, or_left, or_right}
-use Rattle.std.proofs.lemmas.List.{length-map}
 use Rattle.sym_base.specs.declared.number.ObjNo.{ObjNo}
 use Rattle.script_types.specs.declared.declaration.ProcessDecl.{ProcessDecl}
 use Rattle.script_types.specs.declared.declaration.QueueDecl.{QueueDecl}
@@ -13,10 +12,11 @@ use Rattle.script_types.specs.Source.{IsWellFormed}
 use Rattle.script_types.proofs.ProcessThreads.{HasThread, formed_has_thread}
 use Rattle.machine.specs.declared.boot.Born.{Born}
 use Rattle.state_rows.specs.declared.thread.ThreadRow.{ThreadRow}
-use Rattle.machine.specs.Boot.{boot, boot_of, born, born_kernel, born_queues, born_thread, born_threads, born_processes, is_of}
+use Rattle.machine.specs.Boot.{boot, boot_of, objects_from, born, born_kernel, born_queues, born_thread, born_threads, born_processes, is_of}
 use Rattle.machine.specs.Rows.{object_of}
 use Rattle.machine.specs.WellFormed.{IsAlive}
 use Rattle.machine.specs.References.{total, thread_names, count_of, kernel_holds}
+use Rattle.machine_laws.proofs.AtBoot.BootObjects.{length-from}
 use Rattle.machine_laws.proofs.Fitting.Living.{alive_inside}
 use Rattle.move_laws.proofs.References.Same.{same_object, same_self}
 
@@ -129,7 +129,7 @@ pub counted-boot : (script : Script) → IsWellFormed script → (o : ObjNo) →
 unfolding boot_of
 counted-boot script valid o alive =
     let bs = born script in
-    let there = alive_inside (map (λ b. Some b.object) bs) o.0 alive in
-    let long = length-map bs (λ b. Some b.object) in
+    let there = alive_inside (objects_from 0 bs) o.0 alive in
+    let long = length-from 0 bs in
     let some = held_at bs 0 bs o.0 o (omega arith) (born_held script valid) (omega arith) in
     omega arith

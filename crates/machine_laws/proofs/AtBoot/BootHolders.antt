@@ -16,9 +16,10 @@ use Rattle.state_rows.specs.HandleSlots.{slot_at, fresh_slot}
 use Rattle.machine.specs.HeldIn.{own_slot, use_names, rows_hold, servers_hold, owed_by, held_in}
 use Rattle.machine.specs.Holding.{held_at_boot}
 use Rattle.machine.specs.References.{total, option_names, mutex_names, session_names}
-use Rattle.machine.specs.WellFormed.{dead_bit}
-use Rattle.move_laws.proofs.Lives.Bits.{gone, gone_bit, unmade}
+use Rattle.machine.specs.Rows.{object_of}
+use Rattle.machine.specs.WellFormed.{is_dead}
 use Rattle.machine_laws.proofs.AtBoot.BootLocks.{nothing_at}
+use Rattle.machine_laws.proofs.AtBoot.BootObjects.{born_dead}
 use Rattle.machine_laws.proofs.AtBoot.BootServing.{no_session}
 use Rattle.machine_laws.proofs.AtBoot.BootRows.{total-const, const_either}
 use Rattle.machine_laws.proofs.AtBoot.Born.{EachBorn, each_born, born_row}
@@ -73,12 +74,7 @@ held-boot script shaped g x = let a = rows g in let b = owed in let c = served g
     served (Message m) = refl
     served _ = refl
 
-born_not_gone : (script : Script) (n : ℕ) (bs : List Born) (i : ℕ) → EachBorn script n bs → gone_bit (get_or (map (λ b. Some b.object) bs) i unmade) ≡ 0
-born_not_gone script n [] i h = refl
-born_not_gone script n (b ∷ bs) zero h = ap dead_bit h.0.alive
-born_not_gone script n (b ∷ bs) (suc i) h = born_not_gone script n bs i h.1
-
--- nothing is gone at boot
-pub not_gone-boot : (script : Script) → IsShaped script → (o : ObjNo) → gone (boot script).references.objects o ≡ 0
+-- nothing is dead at boot
+pub not_dead-boot : (script : Script) → IsShaped script → (o : ObjNo) → is_dead (object_of (boot script) o) ≡ 0
 unfolding boot_of
-not_gone-boot script shaped o = born_not_gone script (length (born script)) (born script) o.0 (each_born script shaped)
+not_dead-boot script shaped o = born_dead script (length (born script)) 0 (born script) o.0 (each_born script shaped)

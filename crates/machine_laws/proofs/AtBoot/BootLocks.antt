@@ -9,6 +9,7 @@ use Rattle.script_types.specs.Shape.{IsShaped}
 use Rattle.state_rows.specs.Locks.{is_among}
 use Rattle.state_rows.specs.LockChanges.{new_rows}
 use Rattle.state_rows.specs.declared.locks.Owner.{Owner}
+use Rattle.state_rows.specs.declared.object.ObjectRow.{ObjectRow}
 use Rattle.state_rows.specs.declared.thread.ThreadRow.{ThreadRow}
 use Rattle.machine.specs.declared.boot.Born.{Born}
 use Rattle.machine.specs.Boot.{born, memory_of, memory_of_row}
@@ -33,7 +34,8 @@ nobody_owns n o = copy_at {A = Option Owner} None n o.0
 nobody_waits : (n : ℕ) (t o : ObjNo) → is_among t (get_or (replicate n []) o.0 []) ≡ false
 nobody_waits n t o = ap (is_among t) (copy_at {A = List ObjNo} [] n o.0)
 
-pub locks-boot : (objects n : ℕ) (bs : List Born) → n ≡ OBJECTS → AreLocks objects (map (λ b. b.thread) bs) (map (λ _. []) bs) (map (λ _. []) bs) (new_rows n)
+pub locks-boot : (objects : List (Option ObjectRow)) (n : ℕ) (bs : List Born) → n ≡ OBJECTS
+    → AreLocks objects (map (λ b. b.thread) bs) (map (λ _. []) bs) (map (λ _. []) bs) (new_rows n)
 locks-boot objects n bs size = record {
   owners_sized = length-replicate {A = Option Owner} n None ∙ size;
   counts_sized = length-replicate n 0 ∙ size;
@@ -46,6 +48,7 @@ locks-boot objects n bs size = record {
   paid = λ t o among. let none = nobody_waits n t o in absurd (cc);
   owners_made = λ o past. nobody_owns n o;
   waiters_made = λ o past. copy_at {A = List ObjNo} [] n o.0;
+  counts_made = λ o past. copy_at {A = ℕ} 0 n o.0;
 }
 
 memory_size : (thread : Option ThreadRow) (bytes : List ℕ) → memory_of_row thread ≡ Some bytes → length bytes ≡ 1024

@@ -1,10 +1,10 @@
 -- What stands at boot: processes and threads that are alive, each with a new name among its kind.
-use Rattle.std.proofs.Common.{◌≡◌, ◌⊎◌, inl, inr, ℕ, suc, zero, ◌+◌, ◌<◌, ◌≤◌, List, [], ◌∷◌, ◌++◌, length, take, arith, refl, sym, subst, ap, ◌∙◌, Option, Some, None, Bool, true, false, map}
+use Rattle.std.proofs.Common.{◌≡◌, ◌⊎◌, inl, inr, ℕ, suc, zero, ◌+◌, ◌<◌, ◌≤◌, List, [], ◌∷◌, ◌++◌, length, take, arith, refl, sym, subst, ap, ◌∙◌, Option, Some, None, Bool, true, false}
 use Rattle.std.specs.Prelude.{if◌then◌else◌, ◌==◌, codes, slice_get}
 use Rattle.std.specs.List.{AllByRecursion, list_any}
 use Rattle.std.specs.Str.{bytes_eq}
 use Rattle.std.proofs.lemmas.Bool.{eq-eqb, eqb-true, ne_eqb, and_left, and_right, or_parts, or_from}
-use Rattle.std.proofs.lemmas.List.{append_assoc, length-map}
+use Rattle.std.proofs.lemmas.List.{append_assoc}
 use Rattle.sym_base.specs.KindNumber.{kind_number}
 use Rattle.sym_base.specs.declared.kind.Kind.TheVariants.{Process, Thread}
 use Rattle.script_types.specs.declared.declaration.ProcessDecl.{ProcessDecl}
@@ -16,13 +16,10 @@ use Rattle.script_types.proofs.NamesApart.{AreNamesApart, IsPut, put_behind, non
 use Rattle.script_types.proofs.NewNames.{process_names, queue_names, thread_names, formed_names_new}
 use Rattle.machine.specs.declared.boot.Born.{Born}
 use Rattle.state_rows.specs.declared.object.ObjectRow.{ObjectRow}
+use Rattle.machine_laws.proofs.AtBoot.BootObjects.{length-from}
 use Rattle.machine_laws.proofs.AtBoot.Declared.{all-append, all_threads, all_processes}
-use Rattle.machine.specs.Boot.{boot, boot_of, born, born_kernel, born_queues, born_thread, born_threads, born_processes, is_of}
+use Rattle.machine.specs.Boot.{boot, boot_of, objects_from, born, born_kernel, born_queues, born_thread, born_threads, born_processes, is_of}
 use Rattle.state_rows.specs.ObjectRows.{has_name}
-
--- the rows of the objects of a list
-abbrev rows_of : List Born → List (Option ObjectRow)
-rows_of bs = map (λ b. Some b.object) bs
 
 -- an object at boot is alive, and is a process or a thread
 abbrev IsPlain : Born → Type 0
@@ -54,17 +51,18 @@ plain_born script =
 abbrev IsPlainRow : ObjectRow → Type 0
 IsPlainRow row = (row.dead ≡ false) × ((row.kind ≡ Process) ⊎ (row.kind ≡ Thread))
 
-row_at : (bs : List Born) (k : ℕ) → AllByRecursion IsPlain bs → k < length bs
-    → (row : ObjectRow) × (slice_get (rows_of bs) k ≡ Some (Some row)) × (row.dead ≡ false)
+row_at : (n : ℕ) (bs : List Born) (k : ℕ) → AllByRecursion IsPlain bs → k < length bs
+    → (row : ObjectRow) × (slice_get (objects_from n bs) k ≡ Some (Some row)) × (row.dead ≡ false)
     × ((row.kind ≡ Process) ⊎ (row.kind ≡ Thread))
-row_at [] k all inside = absurd (omega arith)
-row_at (b ∷ bs) zero all inside = (b.object, refl, all.0.0, all.0.1)
-row_at (b ∷ bs) (suc k) all inside = row_at bs k all.1 (omega arith)
+row_at n [] k all inside = absurd (omega arith)
+row_at n (b ∷ bs) zero all inside = (record b.object { place = n }, refl, all.0.0, all.0.1)
+row_at n (b ∷ bs) (suc k) all inside = row_at (n + 1) bs k all.1 (omega arith)
 
-plain_at : (bs : List Born) (k : ℕ) (row : ObjectRow) → AllByRecursion IsPlain bs → slice_get (rows_of bs) k ≡ Some (Some row) → IsPlainRow row
-plain_at [] k row all at = absurd (cc)
-plain_at (b ∷ bs) zero row all at = let e : b.object ≡ row = cc in subst IsPlainRow e all.0
-plain_at (b ∷ bs) (suc k) row all at = plain_at bs k row all.1 at
+plain_at : (n : ℕ) (bs : List Born) (k : ℕ) (row : ObjectRow) → AllByRecursion IsPlain bs
+    → slice_get (objects_from n bs) k ≡ Some (Some row) → IsPlainRow row
+plain_at n [] k row all at = absurd (cc)
+plain_at n (b ∷ bs) zero row all at = let e : record b.object { place = n } ≡ row = cc in subst IsPlainRow e all.0
+plain_at n (b ∷ bs) (suc k) row all at = plain_at (n + 1) bs k row all.1 at
 
 -- each row at boot is of a process or a thread that is alive
 pub boot_rows : (script : Script) (k : ℕ) → k < length (boot script).references.objects
@@ -72,15 +70,15 @@ pub boot_rows : (script : Script) (k : ℕ) → k < length (boot script).referen
     × ((row.kind ≡ Process) ⊎ (row.kind ≡ Thread))
 unfolding boot_of
 boot_rows script k inside =
-    let long = length-map (born script) (λ b. Some b.object) in
-    row_at (born script) k (plain_born script) (omega arith)
+    let long = length-from 0 (born script) in
+    row_at 0 (born script) k (plain_born script) (omega arith)
 
 -- and each object that is read there is one
 pub boot_kinds : (script : Script) (k : ℕ) (row : ObjectRow)
     → slice_get (boot script).references.objects k ≡ Some (Some row)
     → (row.dead ≡ false) × ((row.kind ≡ Process) ⊎ (row.kind ≡ Thread))
 unfolding boot_of
-boot_kinds script k row at = plain_at (born script) k row (plain_born script) at
+boot_kinds script k row at = plain_at 0 (born script) k row (plain_born script) at
 
 -- no session stands at boot
 pub boot_no_session : (script : Script) (k : ℕ) (row : ObjectRow)
@@ -107,42 +105,43 @@ none_later : (name first : List ℕ) (names : List (List ℕ)) (own : Bool)
 none_later name first names true none = (or_parts (bytes_eq name first) (list_any (bytes_eq name) names) none).1
 none_later name first names false none = none
 
-other_name : (c : ℕ) (bs : List Born) (k : ℕ) (name : List ℕ) (row : ObjectRow) → kind_number row.kind ≡ c
-    → list_any (bytes_eq name) (names_of c bs) ≡ false → slice_get (rows_of bs) k ≡ Some (Some row)
+other_name : (c n : ℕ) (bs : List Born) (k : ℕ) (name : List ℕ) (row : ObjectRow) → kind_number row.kind ≡ c
+    → list_any (bytes_eq name) (names_of c bs) ≡ false → slice_get (objects_from n bs) k ≡ Some (Some row)
     → bytes_eq name row.name ≡ false
-other_name c [] k name row is none at = absurd (cc)
-other_name c (b ∷ bs) zero name row is none at =
-    let e : b.object ≡ row = cc in
+other_name c n [] k name row is none at = absurd (cc)
+other_name c n (b ∷ bs) zero name row is none at =
+    let e : record b.object { place = n } ≡ row = cc in
     subst (λ (r : ObjectRow). kind_number r.kind ≡ c → bytes_eq name r.name ≡ false) e
     (λ own. other_here c name (names_of c bs) b.object (kind_number b.object.kind == c) refl own none) is
-other_name c (b ∷ bs) (suc k) name row is none at =
-    other_name c bs k name row is (none_later name b.object.name (names_of c bs) (kind_number b.object.kind == c) none)
+other_name c n (b ∷ bs) (suc k) name row is none at =
+    other_name c (n + 1) bs k name row is (none_later name b.object.name (names_of c bs) (kind_number b.object.kind == c) none)
     at
 
 -- the first of a list, beside one of a kind that stands behind it
-new_behind : (c : ℕ) (bs : List Born) (k : ℕ) (first row : ObjectRow) (own : Bool) → (kind_number first.kind == c) ≡ own
+new_behind : (c n : ℕ) (bs : List Born) (k : ℕ) (first row : ObjectRow) (own : Bool) → (kind_number first.kind == c) ≡ own
     → kind_number row.kind ≡ c → AreNamesApart (if own then first.name ∷ names_of c bs else names_of c bs)
-    → slice_get (rows_of bs) k ≡ Some (Some row)
+    → slice_get (objects_from n bs) k ≡ Some (Some row)
     → (has_name row.kind row.name (Some first) ≡ false) × AreNamesApart (names_of c bs)
-new_behind c bs k first row true e is apart at = (
+new_behind c n bs k first row true e is apart at = (
   and_right (kind_number first.kind == kind_number row.kind) (bytes_eq first.name row.name)
-      (other_name c bs k first.name row is apart.0 at),
+      (other_name c n bs k first.name row is apart.0 at),
   apart.1,
 )
-new_behind c bs k first row false e is apart at = (
+new_behind c n bs k first row false e is apart at = (
   and_left (kind_number first.kind == kind_number row.kind) (bytes_eq first.name row.name)
       (ap (λ n. kind_number first.kind == n) is ∙ e),
   apart,
 )
 
 -- where the names of a kind are apart, no object before one of the kind has its kind and its name
-new_at : (c : ℕ) (bs : List Born) (k : ℕ) (row : ObjectRow) → kind_number row.kind ≡ c → AreNamesApart (names_of c bs)
-    → slice_get (rows_of bs) k ≡ Some (Some row) → list_any (has_name row.kind row.name) (take k (rows_of bs)) ≡ false
-new_at c [] k row is apart at = absurd (cc)
-new_at c (b ∷ bs) zero row is apart at = refl
-new_at c (b ∷ bs) (suc k) row is apart at =
-    let first = new_behind c bs k b.object row (kind_number b.object.kind == c) refl is apart at in
-    or_from (has_name row.kind row.name (Some b.object)) (list_any (has_name row.kind row.name) (take k (rows_of bs))) first.0 (new_at c bs k row is first.1 at)
+new_at : (c n : ℕ) (bs : List Born) (k : ℕ) (row : ObjectRow) → kind_number row.kind ≡ c → AreNamesApart (names_of c bs)
+    → slice_get (objects_from n bs) k ≡ Some (Some row) → list_any (has_name row.kind row.name) (take k (objects_from n bs)) ≡ false
+new_at c n [] k row is apart at = absurd (cc)
+new_at c n (b ∷ bs) zero row is apart at = refl
+new_at c n (b ∷ bs) (suc k) row is apart at =
+    let first = new_behind c (n + 1) bs k b.object row (kind_number b.object.kind == c) refl is apart at in
+    or_from (has_name row.kind row.name (Some b.object)) (list_any (has_name row.kind row.name) (take k (objects_from (n + 1) bs)))
+    first.0 (new_at c (n + 1) bs k row is first.1 at)
 
 names_step : (own : Bool) (name : List ℕ) (xs ys zs : List (List ℕ)) → zs ≡ xs ++ ys → (if own then name ∷ zs else zs) ≡ (if own then name ∷ xs else xs) ++ ys
 names_step true name xs ys zs e = ap (λ (l : List (List ℕ)). name ∷ l) e
@@ -316,6 +315,6 @@ unfolding boot_of
 boot_names_new script valid k row at =
     elim (boot_kinds script k row at).1 as (λ _. list_any (has_name row.kind row.name)
     (take k (boot script).references.objects) ≡ false) [
-      | inl process ↦ new_at 0 (born script) k row (ap kind_number process) (processes_apart script valid) at
-      | inr thread ↦ new_at 1 (born script) k row (ap kind_number thread) (threads_apart script valid) at
+      | inl process ↦ new_at 0 0 (born script) k row (ap kind_number process) (processes_apart script valid) at
+      | inr thread ↦ new_at 1 0 (born script) k row (ap kind_number thread) (threads_apart script valid) at
     ]

@@ -51,9 +51,10 @@ suspended_at (b ∷ bs) zero = held_count_is b.held
 suspended_at (b ∷ bs) (suc i) = suspended_at bs i
 
 -- a thread is stopped at boot exactly where it is held
-pub stopped-boot : (pool fast : ℕ) (calls : DeferredRows) (bs : List Born) (t : ObjNo) → is_stopped (boot_of pool fast calls bs) t ≡ is_held_at bs t.0
+pub stopped-boot : (reuse : Bool) (pool fast : ℕ) (calls : DeferredRows) (bs : List Born) (t : ObjNo)
+    → is_stopped (boot_of reuse pool fast calls bs) t ≡ is_held_at bs t.0
 unfolding boot_of
-stopped-boot pool fast calls bs t =
+stopped-boot reuse pool fast calls bs t =
     ap (λ (protected : Bool). not (get_or (map held_count bs) t.0 0 == 0) && not protected) (unprotected fast bs t)
     ∙ (and-true (not (get_or (map held_count bs) t.0 0 == 0)) ∙ suspended_at bs t.0)
 

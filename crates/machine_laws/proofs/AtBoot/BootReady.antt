@@ -10,7 +10,7 @@ use Rattle.machine.specs.declared.boot.Born.{Born}
 use Rattle.state_rows.specs.declared.thread.ThreadRow.{ThreadRow}
 use Rattle.machine.specs.Arrivals.{is_listed}
 use Rattle.state_rows.specs.DeclaredCalls.{calls_of}
-use Rattle.machine.specs.Boot.{boot_in, boot_of, born, ready_at_boot, ready_from}
+use Rattle.machine.specs.Boot.{boot_in, boot_of, born, ready_at_boot, ready_from, uses_again}
 use Rattle.machine.specs.Rows.{first_of, thread_of}
 use Rattle.machine.specs.Task.{task_of, is_waiting, is_waiting_row, is_stopped}
 use Rattle.machine.specs.WellFormed.{AreApart, IsReadyList}
@@ -105,6 +105,8 @@ ready-boot shared script shaped =
       exact = λ u. listed_at 0 bs u.0 u (omega arith) ∙ works_is script (length bs) bs u.0 each
           ∙ sym (ready_is (is_waiting (boot_in shared script) u) (is_stopped (boot_in shared script) u)
           (is_some (task_of script (boot_in shared script) u)) (is_held_at bs u.0) _
-          (goes_on shared script (length bs) bs u.0 each) (stopped-boot script.pool script.fast (calls_of script) bs u) (task-boot shared script u));
+          (goes_on shared script (length bs) bs u.0 each)
+          (stopped-boot (uses_again script.version) script.pool script.fast (calls_of script) bs u)
+          (task-boot shared script u));
       once = ready_apart 0 bs;
     }

@@ -15,16 +15,17 @@ use Rattle.state_rows.specs.declared.duty.Owed.{Owed}
 use Rattle.machine.specs.declared.boot.Born.{Born}
 use Rattle.state_rows.specs.declared.handle_slot.HandleSlot.{HandleSlot}
 use Rattle.state_rows.specs.declared.thread.ThreadRow.{ThreadRow}
-use Rattle.machine.specs.Boot.{boot, boot_in, boot_of, born, ready_at_boot}
+use Rattle.machine.specs.Boot.{boot, boot_in, boot_of, born, objects_from, ready_at_boot}
 use Rattle.state_rows.specs.HandleSlots.{fresh_slot, slot_at}
 use Rattle.machine.specs.References.{total, option_names, slot_names, thread_names, kernel_names, owed_names, mutex_names, count_of, kernel_holds}
 use Rattle.machine.specs.Rows.{thread_of}
 use Rattle.state_rows.specs.HandleSlots.{IsTable}
-use Rattle.machine.specs.WellFormed.{EachMayOwe, AreLogons, AreRequests, AreRows, IsWellFormed, IsAlive, IsUntold, is_dead, dead_bit, owed_sweeps, weight, is_spent}
+use Rattle.machine.specs.WellFormed.{EachMayOwe, AreLogons, AreRequests, AreRows, IsWellFormed, IsUntold, owed_sweeps, weight, is_spent}
 use Rattle.machine_laws.proofs.AtBoot.BootCounts.{counted-boot}
 use Rattle.machine_laws.proofs.AtBoot.BootLinks.{each_linked, linked_at}
 use Rattle.machine_laws.proofs.AtBoot.BootLocks.{locks-boot, memories-boot, nothing_at}
 use Rattle.machine_laws.proofs.AtBoot.BootNano.{synchronized-boot}
+use Rattle.machine_laws.proofs.AtBoot.BootObjects.{born_alive, born_dead, inside_at, length-from, no_thread_at, none_seek, place_at}
 use Rattle.machine_laws.proofs.AtBoot.BootReady.{ready-boot}
 use Rattle.machine_laws.proofs.AtBoot.BootRequests.{no_request, requests-boot}
 use Rattle.machine_laws.proofs.AtBoot.BootServers.{servers-boot}
@@ -48,17 +49,6 @@ const_at : {A B : Type 0} (y d : B) (xs : List A) (i : ℕ) → i < length xs �
 const_at y d [] i h = absurd (omega arith)
 const_at y d (x ∷ xs) zero h = refl
 const_at y d (x ∷ xs) (suc i) h = const_at y d xs i (omega arith)
-
--- nothing is dead at boot, and each object is alive
-born_dead : (script : Script) (n : ℕ) (bs : List Born) (i : ℕ) → EachBorn script n bs → is_dead (get_or (map (λ b. Some b.object) bs) i None) ≡ 0
-born_dead script n [] i h = refl
-born_dead script n (b ∷ bs) zero h = ap dead_bit h.0.alive
-born_dead script n (b ∷ bs) (suc i) h = born_dead script n bs i h.1
-
-born_alive : (script : Script) (n : ℕ) (bs : List Born) (i : ℕ) → EachBorn script n bs → i < length bs → IsAlive (get_or (map (λ b. Some b.object) bs) i None)
-born_alive script n [] i h lt = absurd (omega arith)
-born_alive script n (b ∷ bs) zero h lt = h.0.alive
-born_alive script n (b ∷ bs) (suc i) h lt = born_alive script n bs i h.1 (omega arith)
 
 -- no row names an object past those at boot
 thread_names_past : (n : ℕ) (o : ObjNo) (thread : Option ThreadRow) → n ≤ o.0
@@ -111,7 +101,7 @@ rows-boot shared script valid =
     let bs = born script in
     let few = born_few script shaped in
     let each = each_born script shaped in
-    let objects = length-map bs (λ b. Some b.object) in
+    let objects = length-from 0 bs in
     let threads = length-map bs (λ b. b.thread) in
     record {
       references = record {
@@ -122,6 +112,14 @@ rows-boot shared script valid =
           supervised = omega arith;
           threads_few = omega arith;
           objects_few = omega arith;
+        };
+        places = record {
+          below = λ k row is. let at = place_at 0 bs k row is in let inside = inside_at 0 bs k row is in omega arith;
+          apart = λ j k one other is there same. let a = place_at 0 bs j one is in let b = place_at 0 bs k other there in omega arith;
+          sought = λ o place some. let none = none_seek script (length bs) bs o place each in absurd (omega arith);
+          found = λ o k row is some. let none = none_seek script (length bs) bs o row.place each in absurd (omega arith);
+          makings = λ fresh. sym objects;
+          numbers = λ fresh k row is. let at = place_at 0 bs k row is in omega arith;
         };
         tables =
             λ k inside. subst IsTable (sym (const_at (replicate 256 fresh_slot) [] bs k
@@ -152,14 +150,15 @@ rows-boot shared script valid =
           rows =
               λ k row is after. let new = born_row script (length bs) bs k row each is in
               let no : is_spent row.stage ≡ false = ap is_spent new.live in absurd (cc);
-          unlinked = λ k row is dead. let none = born_dead script (length bs) bs k each in absurd (omega arith);
+          unlinked = λ k row is dead. let none = born_dead script (length bs) 0 bs k each in absurd (omega arith);
+          threads_made = λ k none. no_thread_at 0 bs k none;
         };
       };
       synchronization = record {
         nano = synchronized-boot script shaped;
         deferred = record { idfcs = refl; places = refl; queues = length-replicate {A = List ℕ} (1 + length script.queues) []; known = tt };
         requests = subst (λ (n : ℕ). AreRequests n (request_rows (length bs) DEVICES)) (sym threads) (requests-boot (length bs));
-        locks = locks-boot (length (map (λ b. Some b.object) bs)) OBJECTS bs refl;
+        locks = locks-boot (objects_from 0 bs) OBJECTS bs refl;
         logons =
             subst (λ (n : ℕ). AreLogons n (request_rows (length bs) DEVICES) (map (λ _. []) bs)) (sym threads)
             (logons-boot bs (length bs) (request_rows (length bs) DEVICES) refl);
@@ -170,7 +169,7 @@ rows-boot shared script valid =
         };
       };
       serving = record {
-        servers = rows_of_servers-boot (λ row. is_spent row.stage) (length (map (λ b. Some b.object) bs)) OBJECTS (lock_rows OBJECTS) bs refl;
+        servers = rows_of_servers-boot (λ row. is_spent row.stage) (objects_from 0 bs) OBJECTS (lock_rows OBJECTS) bs refl;
         messages = messages-boot script (IsUntold (request_rows (length bs) DEVICES) (map (λ _. []) bs)) OBJECTS script.pool shaped refl;
       };
       services = record {
@@ -178,11 +177,11 @@ rows-boot shared script valid =
       };
       lives = record {
         alive = λ o c. elim (cases_lt o.0 (length bs)) [
-          | inl lt ↦ born_alive script (length bs) bs o.0 each lt
+          | inl lt ↦ born_alive script (length bs) 0 bs o.0 each lt
           | inr le ↦ let z = boot_count_inside script shaped o le in absurd (omega arith)
         ];
         counted = λ o alive. let some = counted-boot script valid o alive in omega arith;
-        sweeps = λ o. total-const (total (owed_sweeps o)) [] bs refl ∙ sym (born_dead script (length bs) bs o.0 each);
+        sweeps = λ o. total-const (total (owed_sweeps o)) [] bs refl ∙ sym (born_dead script (length bs) 0 bs o.0 each);
       };
     }
 

@@ -1,5 +1,5 @@
 -- At boot there is no server, no session and no message.
-use Rattle.std.proofs.Common.{◌≡◌, ℕ, ◌*◌, ◌≤◌, suc, zero, List, [], ◌∷◌, length, map, replicate, arith, refl, sym, ap, ◌∙◌, Option, Some, None, Bool, true}
+use Rattle.std.proofs.Common.{◌≡◌, ℕ, ◌*◌, ◌≤◌, suc, zero, List, [], ◌∷◌, map, replicate, arith, refl, sym, ap, ◌∙◌, Option, Some, None, Bool, true}
 use Rattle.std.specs.Prelude.{is_some}
 use Rattle.std.proofs.lemmas.List.{length-map, length-replicate}
 use Rattle.sym_base.specs.declared.limits.TheConstants.Limits.{OBJECTS}
@@ -10,18 +10,18 @@ use Rattle.state_rows.specs.MessageChanges.{no_messages}
 use Rattle.state_rows.specs.ServerChanges.{no_rows}
 use Rattle.state_rows.specs.ServerRows.{IsServer, holds, link_of, linked_at, server_of, session_at}
 use Rattle.state_rows.specs.declared.locks.LockRows.{LockRows}
+use Rattle.state_rows.specs.declared.object.ObjectRow.{ObjectRow}
 use Rattle.state_rows.specs.declared.servers.ServerRow.{ServerRow}
 use Rattle.state_rows.specs.declared.servers.SessionRow.{SessionRow}
 use Rattle.state_rows.specs.declared.thread.ThreadRow.{ThreadRow}
 use Rattle.machine.specs.declared.boot.Born.{Born}
 use Rattle.machine.specs.Boot.{born}
 use Rattle.machine.specs.References.{mutex_names, total}
-use Rattle.machine.specs.Serving.{AreMessages, AreServers, is_sending, numbers_left, open_bit, sending_bit, thread_bit, times_owned}
+use Rattle.machine.specs.Serving.{AreMessages, AreServers, numbers_left, open_bit, thread_bit, times_owned, unclosed_bit}
 use Rattle.move_laws.proofs.Lists.Contents.{none_contained}
 use Rattle.move_laws.proofs.Lists.Copies.{copy_at}
 use Rattle.machine_laws.proofs.AtBoot.BootLocks.{nothing_at}
 use Rattle.machine_laws.proofs.AtBoot.BootThreads.{threads_few}
-use Rattle.machine_laws.proofs.AtBoot.Born.{EachBorn, IsNewThread, each_born}
 
 pub total-replicate : {A : Type 0} (f : A → ℕ) (x : A) (n : ℕ) → f x ≡ 0 → total f (replicate n x) ≡ 0
 total-replicate f x zero h = refl
@@ -45,7 +45,7 @@ none_among n s o among = let none = ap (holds s) (none_linked n o) in cc
 none_owned : (bs : List Born) (t o : ObjNo) → times_owned (map (λ _. []) bs) t o ≡ 0
 none_owned bs t o = nothing_at bs (λ (l : List ObjNo). total (mutex_names o) l ≡ 0) t.0 refl
 
-pub rows_of_servers-boot : (spent : ThreadRow → Bool) (objects n : ℕ) (locks : LockRows) (bs : List Born) → n ≡ OBJECTS
+pub rows_of_servers-boot : (spent : ThreadRow → Bool) (objects : List (Option ObjectRow)) (n : ℕ) (locks : LockRows) (bs : List Born) → n ≡ OBJECTS
     → AreServers spent objects (map (λ b. b.thread) bs) locks (map (λ _. []) bs) (no_rows n)
 rows_of_servers-boot spent objects n locks bs size = record {
   servers_sized = length-replicate {A = Option ServerRow} n None ∙ size;
@@ -59,22 +59,15 @@ rows_of_servers-boot spent objects n locks bs size = record {
   unlinked = λ o is. absurd (no_server n o is);
   unlocked = λ o is. absurd (no_server n o is);
   sessions = λ s o is. absurd (no_link n s o is);
-  sessions_later = λ s below. no_session n s;
+  sessions_apart = λ s there. no_session n s;
+  links_apart = λ k row p is link. no_session n p;
+  sessions_over = λ s over. ap link_of (no_session n s);
   linked = λ s o among. absurd (none_among n s o among);
   sessions_made = λ s past. no_session n s;
   linked_made = λ o past. none_linked n o;
 }
 
--- no thread is about to send
-row_sends : (n : ℕ) (thread : Option ThreadRow) → ((row : ThreadRow) → thread ≡ Some row → IsNewThread n row) → sending_bit thread ≡ 0
-row_sends n None new = refl
-row_sends n (Some row) new = ap is_sending (new row refl).part
-
-none_send : (script : Script) (n : ℕ) (bs : List Born) → EachBorn script n bs → total sending_bit (map (λ b. b.thread) bs) ≡ 0
-none_send script n [] h = refl
-none_send script n (b ∷ bs) h = let one = row_sends n b.thread h.0.row in let rest = none_send script n bs h.1 in omega arith
-
--- and each has all its instructions left
+-- each thread has all its instructions left
 row_left : (thread : Option ThreadRow) → numbers_left thread ≤ 32768 * thread_bit thread
 row_left None = omega arith
 row_left (Some row) = omega arith
@@ -95,10 +88,7 @@ messages-boot script A n pool shaped size = record {
   awaited = λ u s some. absurd (omega arith);
   called = λ u. omega arith;
   replies = λ u row some is live. absurd (omega arith);
-  few =
-      let none = total-replicate {A = Option SessionRow} open_bit None n refl in
-      let sends = none_send script (length (born script)) (born script) (each_born script shaped) in
-      omega arith;
+  closed = λ s. let none : unclosed_bit (session_at (no_rows n) s) ≡ 0 = ap unclosed_bit (no_session n s) in omega arith;
   threads_few = threads_few script shaped;
   numbered =
       let none = total-replicate {A = Option SessionRow} open_bit None n refl in

@@ -45,7 +45,7 @@ use Rattle.move_laws.proofs.RowLaws.Declared.{dfc_inside, idfc_inside, queue_ins
 use Rattle.machine_laws.proofs.Fitting.Stepping.{fits-both}
 use Rattle.machine_laws.proofs.Fitting.Uncalled.{is_uncalled}
 use Rattle.machine_laws.proofs.Fitting.Waiters.{waits_nowhere}
-use Rattle.machine_laws.proofs.Fitting.Regular.{IsTame, Kinds, loss_bit, plain}
+use Rattle.machine_laws.proofs.Fitting.Regular.{IsTame, Kinds, going_bit, once_bit, plain}
 use Rattle.machine_laws.proofs.Fitting.Tame.{tame-both, tame-moves}
 
 -- the moves fit one by one, what they may owe has room, and they tell at most four effects
@@ -61,14 +61,16 @@ pub record OwesNothing (k : Kinds) (script : Script) (t : ObjNo) (S : State) (ms
   pub light : total most_owed ms ≡ 0
   pub calm : IsTame k 0 ms
 
--- so none of them gives a reference up
-losses-owe : (ms : List Move) → total loss_bit ms ≤ total most_owed ms
+-- so none of them gives a reference up, or makes an object
+losses-owe : (ms : List Move) → total once_bit ms ≤ total most_owed ms + total going_bit ms
 losses-owe [] = omega arith
+losses-owe (move.Make kind name h ∷ ms) = let rest = losses-owe ms in omega arith
 losses-owe (move.Lose h o ∷ ms) = let rest = losses-owe ms in omega arith
 losses-owe (m ∷ ms) = let rest = losses-owe ms in omega arith
 
-pub light_loses : {k : Kinds} {script : Script} {t : ObjNo} {S : State} {ms : List Move} {most : ℕ} → OwesNothing k script t S ms most → total loss_bit ms ≡ 0
-light_loses {ms = ms} h = let few = losses-owe ms in let none = h.light in omega arith
+pub light_loses : {k : Kinds} {script : Script} {t : ObjNo} {S : State} {ms : List Move} {most : ℕ} → OwesNothing k script t S ms most → k.goes ≡ false
+    → total once_bit ms ≡ 0
+light_loses {ms = ms} h stays = let few = losses-owe ms in let none = h.light in let rest = h.calm.goes stays in omega arith
 
 -- there is room for what they owe
 pub light_few : (script : Script) (S : State) (t : ObjNo) (ms : List Move) → AreRows script S → total most_owed ms ≡ 0
@@ -85,8 +87,8 @@ goes-light script S t ms rows h = record {
 -- moves, and others in the state that they leave
 pub light-then : {k : Kinds} (script : Script) (S : State) (t : ObjNo) (xs ys : List Move) (n m most : ℕ) → n + m ≤ most
     → OwesNothing k script t S xs n → OwesNothing k script t (perform t xs S) ys m
-    → OwesNothing k script t S (xs ++ ys) most
-light-then script S t xs ys n m most fits h more =
+    → k.goes ≡ false → OwesNothing k script t S (xs ++ ys) most
+light-then script S t xs ys n m most fits h more stays =
     let told = total-append most_told xs ys in
     let owed = total-append most_owed xs ys in
     let few = h.told in
@@ -97,7 +99,7 @@ light-then script S t xs ys n m most fits h more =
       each = fits-both script S t xs ys h.each more.each;
       told = omega arith;
       light = omega arith;
-      calm = tame-both xs ys (let none = light_loses h in let few = more.calm.loses in omega arith) h.calm more.calm;
+      calm = tame-both xs ys (let none = light_loses h stays in let few = more.calm.loses in omega arith) h.calm more.calm;
     }
 
 -- the thread that acts is there still, and the rows are rows
@@ -177,7 +179,7 @@ light-complete script S t d code (Some request) rows is =
       light = refl;
       calm = tame-moves _ refl refl;
     })
-    (light-end script S _ t request.thread request.status (thread_of S request.thread) rows refl refl (omega arith) refl)
+    (light-end script S _ t request.thread request.status (thread_of S request.thread) rows refl refl (omega arith) refl) refl
 
 -- an operation
 pub light-op : (script : Script) (S : State) (t : ObjNo) (operation : Op) → AreRows script S → OwesNothing plain script t S (op_moves script S operation) 1
@@ -237,7 +239,7 @@ light-ops script S t (first ∷ rest) s =
     let ms = op_moves script S first in
     let one = light-op script S t first s.rows in
     light-then script S t ms (ops_moves script t (perform t ms S) rest) 1 (length rest) (length (first ∷ rest))
-    (omega arith) one (light-ops script (perform t ms S) t rest (sane-light script S t ms 1 one s))
+    (omega arith) one (light-ops script (perform t ms S) t rest (sane-light script S t ms 1 one s)) refl
 
 -- a call leaves its queue
 pub light-leave : (script : Script) (S : State) (t : ObjNo) (body : Body) → AreRows script S → OwesNothing plain script t S (leave_queue S body) 0
@@ -277,4 +279,4 @@ light-body script S t body shaped s =
     let leave = leave_queue S body in
     let left = light-leave script S t body s.rows in
     let done = light-ops script (perform t leave S) t (ops_of script body) (sane-light script S t leave 0 left s) in
-    light-then script S t leave _ 0 (length (ops_of script body)) 4 (let short = short_body script body shaped in omega arith) left done
+    light-then script S t leave _ 0 (length (ops_of script body)) 4 (let short = short_body script body shaped in omega arith) left done refl

@@ -9,7 +9,7 @@ use Rattle.entry_log.specs.declared.effect.Holder.TheVariants.{InProcess, InThre
 use Rattle.state_rows.specs.HandleSlots.{fresh_slot, slot_at}
 use Rattle.state_rows.specs.MessageChanges.{new_row, next_number}
 use Rattle.state_rows.specs.ServerChanges.{opened}
-use Rattle.state_rows.specs.ServerRows.{IsSession, owner_of, server_at, session_at, was_opened}
+use Rattle.state_rows.specs.ServerRows.{IsSession, is_to_open, owner_of, server_at, session_at, was_opened}
 use Rattle.state_rows.specs.declared.handle_slot.HandleSlot.{HandleSlot}
 use Rattle.state_rows.specs.declared.messages.Message.{Message}
 use Rattle.state_rows.specs.declared.messages.MessageRows.{MessageRows}
@@ -26,16 +26,16 @@ use Rattle.machine.specs.declared.server_move.ServerMove.TheVariants.{Close, Set
 use Rattle.machine.specs.declared.state.State.{State}
 use Rattle.machine.specs.Closing.{before_close, close_moves, close_or, connected_to, disconnect}
 use Rattle.machine.specs.Fits.{IsOwn, EachFits, FitsMove, Holds, most_owed}
-use Rattle.machine.specs.FitsServers.{HasNumber, HasSpare}
+use Rattle.machine.specs.FitsServers.{HasNumber, IsClosed}
 use Rattle.machine.specs.Messaging.{disconnects, no_args, open_server, slots_of}
 use Rattle.machine.specs.Moves.{closed_effects, moved, tell, told, with_waiting}
 use Rattle.machine.specs.References.{count_of, kernel_holds, message_names, option_names, same, slot_names, total}
 use Rattle.machine.specs.Kept.{dies, is_kept}
 use Rattle.machine.specs.Rows.{table_of, thread_of}
-use Rattle.machine.specs.Serving.{open_bit, session_bit}
+use Rattle.machine.specs.Serving.{open_bit, unclosed_bit}
 use Rattle.machine.specs.Out.{is_returning, part_of}
 use Rattle.machine.specs.WellFormed.{AreRows}
-use Rattle.move_laws.proofs.Lists.Mapped.{mapped-some, mapped-value, none_of}
+use Rattle.move_laws.proofs.Lists.Mapped.{made-here, mapped-some, mapped-value, none_of}
 use Rattle.move_laws.proofs.Lists.Totals.{total-append, total-with, total_at_least}
 use Rattle.move_laws.proofs.Numbers.FewEffects.{tell_few}
 use Rattle.move_laws.proofs.References.Same.{eqb_apart, same_self}
@@ -126,24 +126,29 @@ closed_one : (last : Bool) (h : Holder) (o : ObjNo) → last ≡ false → lengt
 closed_one true h o e = absurd (cc)
 closed_one false h o e = omega arith
 
--- a session that closes leaves room for the message that disconnects it
+-- a session that closes isn't to be closed any more, and leaves a number for the message that disconnects it
 closed_open : (x : Option SessionRow) → open_bit (option_map (opened false) x) ≡ 0
 closed_open None = refl
 closed_open (Some row) = refl
 
-closed_there : (x : Option SessionRow) → session_bit (option_map (opened false) x) ≡ session_bit x
-closed_there None = refl
-closed_there (Some row) = refl
+unclosed_then : (x : Option SessionRow) → unclosed_bit (option_map (opened false) x) ≡ 0
+unclosed_then None = refl
+unclosed_then (Some row) = refl
 
-spare_closed : (script : Script) (S : State) (t s : ObjNo) → AreRows script S
-    → was_opened (session_at S.serving.servers s) ≡ true → HasSpare (moved t (Servers (SetOpen s false)) S)
-spare_closed script S t s rows was =
-    let a = total-with open_bit (option_map (opened false)) None S.serving.servers.sessions s.0 refl in
-    let b = total-with session_bit (option_map (opened false)) None S.serving.servers.sessions s.0 refl in
-    let bit : open_bit (session_at S.serving.servers s) ≡ 1 = ap (λ (x : Bool). if x then 1 else 0) was in
-    let new = closed_open (session_at S.serving.servers s) in
-    let there = closed_there (session_at S.serving.servers s) in
-    let few = rows.serving.messages.few in omega arith
+unclosed_was : (x : Option SessionRow) → was_opened x ≡ true → unclosed_bit x ≡ 1
+unclosed_was x was = by (is_to_open x)
+  where
+    by : (b : Bool) → ◌≡◌ {A = ℕ} (if b then 1 else open_bit x) 1
+    by true = refl
+    by false = ap (λ (y : Bool). if y then 1 else 0) was
+
+closed_now : (script : Script) (S : State) (t s : ObjNo) → AreRows script S
+    → was_opened (session_at S.serving.servers s) ≡ true → IsClosed (moved t (Servers (SetOpen s false)) S) s
+closed_now script S t s rows was =
+    let once = rows.serving.messages.closed s in
+    let old = unclosed_was (session_at S.serving.servers s) was in
+    let here = ap unclosed_bit (made-here (option_map (opened false)) None S.serving.servers.sessions s.0 s.0 refl refl) in
+    let new = unclosed_then (session_at S.serving.servers s) in omega arith
 
 -- and a number
 number_closed : (script : Script) (S : State) (t s : ObjNo) → AreRows script S
@@ -192,7 +197,7 @@ module _ (script : Script) (S : State) (t : ObjNo) (h : Holder) (o : ObjNo) (may
     session = mapped-some (opened false) S.serving.servers.sessions o.0 o.0 ∙ open_session S o v accepts;
     owes = record { thread = ap is_some may.is; going = part_going may };
     others = λ u apart. refl;
-    sends = spare_closed script S t o may.rows was;
+    sends = closed_now script S t o may.rows was;
     number = number_closed script S t o may.rows was;
     slot = refl;
   }

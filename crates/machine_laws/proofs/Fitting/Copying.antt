@@ -59,7 +59,6 @@ fits-piece {row = row} told named copy (More done) h early fits = record {
           other = refl;
           ends = same_row h (λ x. begun x.part ≤ 0) (omega arith);
         },
-        tt,
         refl,
       ),
       ((goes-back h part.Piece refl, refl), tt),

@@ -121,7 +121,7 @@ module _ (script : Script) (S : State) (t : ObjNo) (message : Message) (code : �
       let untold = rows.serving.messages.awaited u s once.0 in
       light-then script (left servers) t (Requests (Signal u s code) ∷ []) (end_wait S u s (Some row)) 1 0 1 (omega arith)
       (record { each = ((untold, (record { row = row; is = is; live = live }, once.1)), tt); told = omega arith; light = refl; calm = tame-moves _ refl refl })
-      (light-end script S (moved t (Requests (Signal u s code)) (left servers)) t u s (Some row) rows refl refl (called_fewer u) is)
+      (light-end script S (moved t (Requests (Signal u s code)) (left servers)) t u s (Some row) rows refl refl (called_fewer u) is) refl
 
   -- a reply is given, and the wait for it ends
   tells-reply : (servers : ServerRows) (u : ObjNo) (row : ThreadRow) → thread_of S u ≡ Some row → row.stage ≡ Live
@@ -177,7 +177,7 @@ module _ (script : Script) (S : State) (t : ObjNo) (message : Message) (code : �
         light = refl;
         calm = tame-moves _ refl refl;
       })
-      (tells-client (servers_moved closes S.serving.owned S.serving.servers) (thread_of S message.row.client) refl))
+      (tells-client (servers_moved closes S.serving.owned S.serving.servers) (thread_of S message.row.client) refl) refl)
       (λ _. tells-client S.serving.servers (thread_of S message.row.client) refl)
 
 -- what finishes a message fits, tells two effects at most, and owes two closes

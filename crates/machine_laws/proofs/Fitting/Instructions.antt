@@ -86,6 +86,6 @@ fits-step script S t row (instr.Write y arg offset size from) p h going at = few
 pub fits-returning : (script : Script) (S : State) (t : ObjNo) (row : ThreadRow) (instr : Instr) → AreRows script S
     → thread_of S t ≡ Some row → is_returning row.part ≡ true
     → FitsDecision looking script t S (return_of S t row instr)
-fits-returning script S t row (instr.Open kind name x) rows is returns = fits-return script S t row word.Open part.Do refl refl rows is returns refl tt
-fits-returning script S t row (instr.Connect name slots x) rows is returns = fits-return script S t row word.Connect part.Make refl refl rows is returns refl tt
+fits-returning script S t row (instr.Open kind name x) rows is returns = fits-return script S t row word.Open part.Do refl refl rows is returns refl
+fits-returning script S t row (instr.Connect name slots x) rows is returns = fits-return script S t row word.Connect part.Make refl refl rows is returns refl
 fits-returning script S t row _ rows is returns = fits-nothing script S t

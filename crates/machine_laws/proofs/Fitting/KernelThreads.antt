@@ -114,7 +114,7 @@ pub fits-later : {k : Kinds} {script : Script} {S : State} {t : ObjNo} {row : Th
     → k.goes ≡ true → IsStepping script S t row instr → IsCheap m
     → FitsMove script t m (moved t (move.GoOn t part.Done) S) → FitsDecision k script t S (go_on t told m part.Done)
 fits-later told named m goes h cheap fits = record {
-  each = ((last_step h, tt, refl), (fits, tt));
+  each = ((last_step h, refl), (fits, tt));
   told = let a = cheap.told in omega arith;
   light = let a = cheap.light in omega arith;
   regular =
@@ -241,7 +241,7 @@ fits-look_kind {k = k} {script = script} {S = S} {t = t} {row = row} kind word x
   where
     found : (named : Option ObjNo) → of_kind S kind (object_at S t row (slice_index row.registers x)) ≡ named → FitsDecision k script t S (look_at t word named)
     found None e = fits-refuse (step.Of word part.Look) refl error.BadHandle h
-    found (Some o) e = fits-use (step.Of word part.Look) refl o part.Do uses goes h before refl tt
+    found (Some o) e = fits-use (step.Of word part.Look) refl o part.Do uses goes h before refl
         (handle_is_counted S _ _ o (object_of_is _ _ _ o (of_kind_is S kind _ o e)))
 
 -- a move of a call on a thread that is there

@@ -1,10 +1,11 @@
 -- Objects that are referred to have a count, and are alive.
 use Rattle.std.proofs.Common.{◌≡◌, ℕ, suc, zero, ◌<◌, List, [], ◌∷◌, length, get_or, arith, ltb-true, refl, sym, subst, ap, ◌∙◌, Option, Some, None, Bool, true, false}
-use Rattle.std.specs.Prelude.{not, position, nat_lt, ◌||◌, if◌then◌else◌}
+use Rattle.std.specs.Prelude.{is_some, not, position, nat_lt, ◌==◌, ◌||◌, if◌then◌else◌}
+use Rattle.std.proofs.lemmas.Bool.{and_parts, eqb-true}
 use Rattle.std.proofs.lemmas.List.Quantifiers.{position-Some}
 use Rattle.sym_base.specs.declared.number.ObjNo.{ObjNo}
 use Rattle.sym_base.specs.declared.kind.Kind.{Kind}
-use Rattle.state_rows.specs.ObjectRows.{has_name, is_dead_row, is_session, named, numbered}
+use Rattle.state_rows.specs.ObjectRows.{has_name, is_dead_row, is_session, named, numbered, place_of}
 use Rattle.state_rows.specs.declared.object.ObjectRow.{ObjectRow}
 use Rattle.state_rows.specs.declared.thread.ThreadRow.{ThreadRow}
 use Rattle.machine.specs.declared.state.State.{State}
@@ -54,14 +55,17 @@ not_dead : (dead : Bool) → not dead ≡ true → dead ≡ false
 not_dead true e = cc
 not_dead false e = refl
 
--- what may be opened is alive
-pub open_is_alive : (row : Option ObjectRow) → is_open row ≡ true → IsAlive row
-open_is_alive None e = cc
-open_is_alive (Some row) e = not_dead row.dead e
+-- what may be opened is alive, and has the place that is sought
+pub open_is_alive : (place : ℕ) (row : Option ObjectRow) → is_open place row ≡ true → IsAlive row × (place_of row ≡ place)
+open_is_alive place None e = cc
+open_is_alive place (Some row) e =
+    let parts = and_parts (not row.dead) (row.place == place) e in (not_dead row.dead parts.0, eqb-true row.place place parts.1)
 
-number_inside : (rows : List (Option ObjectRow)) (p : Option ℕ) (o : ObjNo) → ((n : ℕ) → p ≡ Some n → n < length rows) → numbered p ≡ Some o → o.0 < length rows
-number_inside rows None o within e = cc
-number_inside rows (Some n) o within e = let at : n ≡ o.0 = cc in let lt = within n refl in omega arith
+number_there : (rows : List (Option ObjectRow)) (p : Option ℕ) (o : ObjNo) → ((n : ℕ) → p ≡ Some n → is_some (get_or rows n None) ≡ true)
+    → numbered p ≡ Some o → is_some (get_or rows o.0 None) ≡ true
+number_there rows None o there e = cc
+number_there rows (Some n) o there e =
+    let same : record { 0 = n } ≡ o = cc in subst (λ (x : ObjNo). is_some (get_or rows x.0 None) ≡ true) same (there n refl)
 
 guard_step : (b : Bool) (x : Option ObjNo) (o : ObjNo) → (if b then None else x) ≡ Some o → x ≡ Some o
 guard_step true x o e = cc
@@ -75,11 +79,15 @@ findable_is : (S : State) (x : Option ObjNo) (o : ObjNo) → findable S x ≡ So
 findable_is S None o e = cc
 findable_is S (Some x) o e = seen_step (is_dead_row (object_of S x) || nat_lt 0 (count_of S x)) x o e
 
--- what is found by name was made
-pub found_inside : (S : State) (kind : Kind) (name : List ℕ) (o : ObjNo) → find_object S kind name ≡ Some o → o.0 < length S.references.objects
-found_inside S kind name o e =
-    number_inside S.references.objects (position (has_name kind name) S.references.objects) o
-    (λ n at. (position-Some (has_name kind name) S.references.objects n None at).0)
+-- what is found by name is there
+has_row : (kind : Kind) (name : List ℕ) (row : Option ObjectRow) → has_name kind name row ≡ true → is_some row ≡ true
+has_row kind name None has = absurd (cc)
+has_row kind name (Some row) has = refl
+
+pub found_there : (S : State) (kind : Kind) (name : List ℕ) (o : ObjNo) → find_object S kind name ≡ Some o → is_some (object_of S o) ≡ true
+found_there S kind name o e =
+    number_there S.references.objects (position (has_name kind name) S.references.objects) o
+    (λ n at. has_row kind name (get_or S.references.objects n None) (position-Some (has_name kind name) S.references.objects n None at).1)
     (findable_is S (named kind name S.references.objects) o (guard_step (is_session kind) (findable S (named kind name S.references.objects)) o e))
 
 -- and what is alive among that has a reference

@@ -44,7 +44,7 @@ use Rattle.move_laws.proofs.Holders.ThreadRows.{row-here}
 use Rattle.move_laws.proofs.Lists.Cases.{if_cases}
 use Rattle.move_laws.proofs.Readiness.FirstReady.{greatest_listed}
 use Rattle.machine_laws.proofs.Fitting.KernelThreads.{fits-answer, fits-look_kind, fits-unless}
-use Rattle.machine_laws.proofs.Fitting.Living.{alive_inside, use_is_alive, use_is_counted}
+use Rattle.machine_laws.proofs.Fitting.Living.{use_is_alive, use_is_counted}
 use Rattle.machine_laws.proofs.Fitting.Stepping.{FitsDecision, IsStepping, fits-answers, fits-nothing, fits-refuse, at-with_row, live-changed, stepping_live, ends_here, last_step, ends_in}
 use Rattle.machine_laws.proofs.Fitting.Uncalled.{stepping_uncalled, waiter_uncalled}
 use Rattle.machine_laws.proofs.Fitting.Waiters.{passed_is, stepping_nowhere, struck_nowhere, woke_is}
@@ -99,7 +99,7 @@ fits-wait_at : {k : Kinds} {script : Script} {S : State} {t : ObjNo} {row : Thre
     → FitsDecision k script t S (wait_at t told o m)
 fits-wait_at {S = S} {t = t} {row = row} told named o m goes calm h going none fits = record {
   each = (
-    (last_step h, tt, refl),
+    (last_step h, refl),
     (
       (
         none,
@@ -198,7 +198,7 @@ fits-unlock_by : {script : Script} {S : State} {t : ObjNo} {row : ThreadRow} {in
 fits-unlock_by {script = script} {S = S} {t = t} {row = row} o unlocked h going alive e = by unlocked (
   refl,
   record {
-    object = alive_inside S.references.objects o.0 alive;
+    object = alive;
     thread = ap is_some h.is;
     nowhere = stepping_nowhere h;
     going = ap (λ (r : Option ThreadRow). is_returning (part_of r)) h.is ∙ going;
@@ -263,7 +263,7 @@ fits-signal_by : {script : Script} {S : State} {t : ObjNo} {row : ThreadRow} {in
     → answer ≡ signal_answer (best_waiter (priority_of S) S.synchronization.locks o)
     (count_at S.synchronization.locks o)
     → FitsDecision looking script t S (signal_by t o answer)
-fits-signal_by {script = script} {S = S} {t = t} o answer h alive e = by answer (record { object = alive_inside S.references.objects o.0 alive; answer = e })
+fits-signal_by {script = script} {S = S} {t = t} o answer h alive e = by answer (record { object = alive; answer = e })
   where
     by : (s : Signalled) → FitsLocks t (Signal o s) S → FitsDecision looking script t S (signal_by t o s)
     by signalled.Overflow fits = fits-refuse (Of word.Signal part.Do) refl error.Overflow h

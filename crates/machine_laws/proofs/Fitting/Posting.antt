@@ -104,7 +104,7 @@ pub record MayPost (script : Script) (S T : State) (t s o : ObjNo) (way : Way) :
   pub session : IsSession T.serving.servers s
   pub owes : MayOweMore T t
   pub others : (u : ObjNo) → (t.0 ≡ u.0 → ⊥) → thread_of T u ≡ thread_of S u
-  pub sends : FitsWay t way T
+  pub sends : FitsWay t s way T
   pub number : HasNumber T
   pub slot : (is_async way && is_full T.serving.messages s (slots_of S s)) ≡ false
 

@@ -1,8 +1,8 @@
 -- What a doomed thread does fits: it gives up one thing an action, and is cleaned at last; and so does a burial.
-use Rattle.std.proofs.Common.{◌≡◌, inl, inr, ℕ, zero, suc, ◌+◌, ◌<◌, List, [], ◌∷◌, ◌++◌, length, get_or, map, arith, refl, sym, ap, subst, ◌∙◌, Option, Some, None, Bool, true, false}
+use Rattle.std.proofs.Common.{◌≡◌, ℕ, zero, suc, ◌+◌, ◌<◌, List, [], ◌∷◌, ◌++◌, length, get_or, map, arith, refl, sym, ap, subst, ◌∙◌, Option, Some, None, Bool, true, false}
 use Rattle.std.specs.List.{AllByRecursion}
 use Rattle.std.specs.Prelude.{◌==◌, is_some, if◌then◌else◌, not, option_map, position}
-use Rattle.std.proofs.lemmas.Bool.{and_parts, cases_lt, eq-eqb}
+use Rattle.std.proofs.lemmas.Bool.{and_parts, eq-eqb}
 use Rattle.std.proofs.lemmas.List.Quantifiers.{position-Some}
 use Rattle.sym_base.specs.declared.number.ObjNo.{ObjNo}
 use Rattle.script_types.specs.declared.script.Script.{Script}
@@ -34,13 +34,13 @@ use Rattle.machine.specs.LogonMoves.{is_logon, logons_on, without_logon}
 use Rattle.machine.specs.Moves.{moved}
 use Rattle.machine.specs.Reaping.{buried_by, bury, bury_found, clean, free_mutex, give_up, is_buried_by, is_cleaned, tell_logon, burial_of}
 use Rattle.machine.specs.References.{mutex_names, stage_holds, total}
-use Rattle.machine.specs.Rows.{owed_of, table_of, thread_of}
+use Rattle.machine.specs.Rows.{object_of, owed_of, table_of, thread_of}
 use Rattle.machine.specs.ServerMoves.{owned_by}
 use Rattle.machine.specs.Out.{is_returning, part_of}
 use Rattle.machine.specs.ThreadCalls.{is_live}
-use Rattle.machine.specs.WellFormed.{AreRows, IsSpent, logon_names, times_held, times_logged}
+use Rattle.machine.specs.WellFormed.{AreRows, IsAlive, IsSpent, logon_names, times_held, times_logged}
 use Rattle.move_laws.proofs.Lists.Cases.{if_cases}
-use Rattle.move_laws.proofs.Lists.Totals.{inside, total-set, total_at_least}
+use Rattle.move_laws.proofs.Lists.Totals.{inside, total-set, total_at_least, total_within}
 use Rattle.move_laws.proofs.Readiness.FirstReady.{greatest_listed}
 use Rattle.move_laws.proofs.References.Same.{same_self}
 use Rattle.move_laws.proofs.RowLaws.Declared.{all-both, burial_inside, queue_inside}
@@ -67,17 +67,14 @@ gives-mutex : {script : Script} {S : State} {t : ObjNo} {row : ThreadRow} (o : O
     → 0 < times_held S.synchronization.mutexes t o → FitsDecision freeing script t S (give_up S t row (Mutex o))
 gives-mutex {script = script} {S = S} {t = t} {row = row} o h some = by (best_waiter (priority_of S) S.synchronization.locks o) refl
   where
-    made : o.0 < length S.references.objects
-    made = elim (cases_lt o.0 (length S.references.objects)) as (λ _. o.0 < length S.references.objects) [
-      | inl within ↦ within
-      | inr past ↦ let none = h.rows.synchronization.locks.owners_made o past in let owns = (h.rows.synchronization.locks.held t o some).is in absurd (cc)
-    ]
+    alive : IsAlive (object_of S o)
+    alive = h.rows.lives.alive o (let within = total_within (mutex_names o) S.synchronization.mutexes t.0 in omega arith)
 
     fits : (best : Option ObjNo) → best_waiter (priority_of S) S.synchronization.locks o ≡ best → FitsLocks t (Free o t best) S
     fits best e = (
       refl,
       record {
-        object = made;
+        object = alive;
         thread = ap is_some h.is;
         nowhere = waits_nowhere script S t row h.rows h.is (λ x e. let nothing = h.waits in absurd (cc));
         going = ap (λ (r : Option ThreadRow). is_returning (part_of r)) h.is ∙ h.going;

@@ -180,10 +180,11 @@ going_late [] = 0
 going_late (Advance u ∷ ms) = total going_bit ms
 going_late (m ∷ ms) = going_late ms
 
--- 1 for one that gives a reference up
-abbrev pub loss_bit : Move → ℕ
-loss_bit (Lose h o) = 1
-loss_bit _ = 0
+-- 1 for what an action does once at most: it gives a reference up, or makes an object
+abbrev pub once_bit : Move → ℕ
+once_bit (Make kind name h) = 1
+once_bit (Lose h o) = 1
+once_bit _ = 0
 
 -- 1 where something is answered
 abbrev pub answer_bit : Option ℤ → ℕ
@@ -209,8 +210,8 @@ pub record IsFinding (script : Script) (S : State) (t : ObjNo) (d : Decision) (o
 
 -- a decision answers where it ends an instruction, and goes on with nothing behind that; servers begin to close exactly of threads that it dooms; no
 -- server is made with a mutex; it serves, sends and goes on only where its kind does, and cleans only in that step; its thread alone comes to use
--- something, where its kind does and nothing is answered; and it finds an object only where it does nothing else. It gives one reference up at
--- most; and it comes back from a find exactly in a return, which only a thread makes that found something, and which gives none up
+-- something, where its kind does and nothing is answered; and it finds an object only where it does nothing else. It gives one reference up or
+-- makes one object at most; and it comes back from a find exactly in a return, which only a thread makes that found something, and which does neither
 pub record IsRegular (k : Kinds) (script : Script) (S : State) (t : ObjNo) (d : Decision) : Type 0 where
   pub answers : total advance_bit d.moves ≡ answer_bit d.answer
   pub dooms : (v : ObjNo) → total (closed_bit v) d.moves ≡ total (doomed_bit v) d.moves
@@ -222,10 +223,10 @@ pub record IsRegular (k : Kinds) (script : Script) (S : State) (t : ObjNo) (d : 
   pub cleans : is_clean d.step ≡ false → total cleaning_bit d.moves ≡ 0
   pub known : is_clean d.step ≡ true → IsCleaning script S t d
   pub uses : (u : ObjNo) → (u.0 ≡ t.0 → ⊥) ⊎ ((k.uses ≡ false) ⊎ (0 < answer_bit d.answer)) → total (use_bit u) d.moves ≡ 0
-  pub loses : total loss_bit d.moves ≤ 1
+  pub loses : total once_bit d.moves ≤ 1
   pub finds : (o : ObjNo) → 0 < total (find_bit o) d.moves → IsFinding script S t d o
   pub comes : total coming_bit d.moves ≡ return_bit d.step
-  pub returns : is_return d.step ≡ true → (is_returning (part_of (thread_of S t)) ≡ true) × (total loss_bit d.moves ≡ 0)
+  pub returns : is_return d.step ≡ true → (is_returning (part_of (thread_of S t)) ≡ true) × (total once_bit d.moves ≡ 0)
 
 -- the same of moves that end so many instructions, clean nobody, find nothing, and by which nobody comes back or comes to use something
 pub record IsTame (k : Kinds) (ends : ℕ) (ms : List Move) : Type 0 where
@@ -236,6 +237,6 @@ pub record IsTame (k : Kinds) (ends : ℕ) (ms : List Move) : Type 0 where
   pub mutexes : k.locks ≡ false → total mutex_bit ms ≡ 0
   pub goes : k.goes ≡ false → total going_bit ms ≡ 0
   pub uses : (u : ObjNo) → total (use_bit u) ms ≡ 0
-  pub loses : total loss_bit ms ≤ 1
+  pub loses : total once_bit ms ≤ 1
   pub finds : (o : ObjNo) → total (find_bit o) ms ≡ 0
   pub comes : total coming_bit ms ≡ 0

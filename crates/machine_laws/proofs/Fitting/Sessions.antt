@@ -2,7 +2,6 @@
 use Rattle.std.proofs.Common.{◌≡◌, ℕ, ℤ, ◌<◌, List, [], ◌∷◌, length, get_or, arith, refl, sym, ap, subst, ◌∙◌, Option, Some, None, true, false, ◌+◌, ◌≤◌, Bool}
 use Rattle.std.specs.Ordering.{int_eq}
 use Rattle.std.specs.Prelude.{pos, is_some, option_map, if◌then◌else◌}
-use Rattle.std.proofs.lemmas.List.{length_push}
 use Rattle.sym_base.specs.ErrorCode.{error_code}
 use Rattle.sym_base.specs.declared.error.Error.TheVariants as error
 use Rattle.sym_base.specs.declared.kind.Arg.{Arg}
@@ -22,8 +21,8 @@ use Rattle.entry_log.specs.declared.step.Step.TheVariants.{Of}
 use Rattle.state_rows.specs.MessageRows.{is_full}
 use Rattle.state_rows.specs.Nano.{held_by}
 use Rattle.state_rows.specs.Requests.{is_pending, reply_of}
-use Rattle.state_rows.specs.ServerChanges.{new_session, opened}
-use Rattle.state_rows.specs.ServerRows.{closes, link_of, server_at, session_at, was_opened}
+use Rattle.state_rows.specs.ServerChanges.{opened}
+use Rattle.state_rows.specs.ServerRows.{closes, is_to_open, link_of, server_at, session_at, was_opened}
 use Rattle.state_rows.specs.declared.messages.Way.TheVariants.{Async, Sync}
 use Rattle.state_rows.specs.declared.servers.ServerRow.{ServerRow}
 use Rattle.state_rows.specs.declared.servers.ServerRows.{ServerRows}
@@ -35,26 +34,27 @@ use Rattle.machine.specs.declared.request_move.RequestMove.TheVariants.{SetPendi
 use Rattle.machine.specs.declared.server_move.ServerMove.TheVariants.{Join, SetOpen}
 use Rattle.machine.specs.declared.state.State.{State}
 use Rattle.machine.specs.Fits.{IsFree, MayGoOn}
-use Rattle.machine.specs.FitsServers.{HasSpare, MayJoinServer, HasNumber}
+use Rattle.machine.specs.FitsServers.{MayJoinServer, HasNumber}
 use Rattle.machine.specs.Handles.{holder_of}
-use Rattle.machine.specs.Messaging.{connects, no_args, open_server, post, slots_of}
+use Rattle.machine.specs.Messaging.{connects, no_args, open_server, post, server_to_open, slots_of}
 use Rattle.machine.specs.Moves.{moved, new_object, next_object, no_number_left, with_kept, with_part, with_use, with_waiting}
 use Rattle.machine.specs.Rows.{thread_of}
-use Rattle.machine.specs.Serving.{is_sending, open_bit, sending_bit, session_bit, begun, numbers_left}
+use Rattle.machine.specs.Serving.{open_bit, begun, numbers_left}
 use Rattle.machine.specs.SessionCalls.{args_of, call_do, call_step, call_to, connect_done, connect_make, connect_send, connect_step, connect_to, fail_connect, make_session, send_connect, send_do, send_step, send_to, session_made}
 use Rattle.machine.specs.References.{count_of, stage_holds, total}
 use Rattle.machine.specs.Out.{is_returning, part_of}
-use Rattle.machine.specs.WellFormed.{is_before_use, is_spent}
+use Rattle.machine.specs.WellFormed.{IsAlive, is_before_use, is_spent}
 use Rattle.move_laws.proofs.Holders.ThreadRows.{row-here, row-other}
 use Rattle.move_laws.proofs.Lists.Cases.{if_cases}
 use Rattle.move_laws.proofs.Lists.Mapped.{mapped-some}
-use Rattle.move_laws.proofs.Lists.Totals.{total-set, total-with}
+use Rattle.move_laws.proofs.Lists.Totals.{total-with}
 use Rattle.move_laws.proofs.Lives.Fresh.{next_fresh}
+use Rattle.move_laws.proofs.Lives.NewObjects.{made-own, next_number_is}
 use Rattle.move_laws.proofs.Numbers.Registers.{send_small}
 use Rattle.move_laws.proofs.RowLaws.MessagesKept.{fewer-with_row}
 use Rattle.machine_laws.proofs.Fitting.Deaths.{not_logged, set_awaited}
 use Rattle.machine_laws.proofs.Fitting.KernelThreads.{fits-answer, fits-look_kind, fits-unless}
-use Rattle.machine_laws.proofs.Fitting.Living.{alive_inside, handle_is_counted, use_is_alive, thread_is_counted, use_is_counted}
+use Rattle.machine_laws.proofs.Fitting.Living.{handle_is_counted, use_is_alive, thread_is_counted, use_is_counted}
 use Rattle.machine_laws.proofs.Fitting.Posting.{MayPost, open_session, posts, stay-post}
 use Rattle.machine_laws.proofs.Fitting.Servers.{owes_more}
 use Rattle.machine_laws.proofs.Fitting.Shared.{fits-seek, of_thread_handle}
@@ -83,14 +83,16 @@ module _ (script : Script) (S : State) (t : ObjNo) (row : ThreadRow) (instr : In
   may_join : (i : ℕ) → MayJoinServer (made i) (next_object S) o
   may_join i =
       let s = next_object S in
-      let within = alive_inside S.references.objects o.0 (use_is_alive S t row o h.rows.lives h.is uses) in
-      let longer = length_push S.references.objects (Some (new_object kind.Session [])) in
+      let alive = use_is_alive S t row o h.rows.lives h.is uses in
       let fresh = next_fresh script S h.rows in
-      let none = fresh.count in
+      let none = fresh.references in
       record {
-        made = omega arith;
-        later = h.rows.references.sized.first;
-        other = λ same. absurd (omega arith);
+        alive =
+            subst IsAlive (sym (made-own S.references.objects s.0 (new_object kind.Session [] S.references.made)
+            (next_number_is S.mode.reuse S.references.objects).0)) refl;
+        thread = fresh.thread;
+        unlinked = omega arith;
+        other = λ same. subst IsAlive (ap (λ (n : ℕ). get_or S.references.objects n None) (sym same) ∙ fresh.object) alive;
         fresh = fresh.session;
         alone = record { no_session = fresh.linked; no_server = ap link_of fresh.session };
         unnamed = omega arith;
@@ -108,21 +110,6 @@ module _ (script : Script) (S : State) (t : ObjNo) (row : ThreadRow) (instr : In
   down_there i number =
       row-here (moved t (move.Keep t number) (joined i)).references.threads t (with_use None) t.0 refl
       ∙ ap (option_map (with_use None)) (kept_there i number)
-
-  -- one session more is there, and none more is used
-  spare_made : (i number : ℕ) → HasSpare (put_down i number)
-  spare_made i number =
-      let s = next_object S in
-      let sized = h.rows.serving.servers.sessions_sized in
-      let fresh = (next_fresh script S h.rows).session in
-      let new = new_session o slots t in
-      let first = fewer-with_row sending_bit S.references.threads t (with_kept number) (λ r at. omega arith) in
-      let second = fewer-with_row sending_bit (moved t (move.Keep t number) (joined i)).references.threads t (with_use None) (λ r at. omega arith) in
-      let opens = total-set open_bit S.serving.servers.sessions s.0 (Some new) None (omega arith) in
-      let there = total-set session_bit S.serving.servers.sessions s.0 (Some new) None (omega arith) in
-      let none : open_bit (session_at S.serving.servers s) ≡ 0 = ap open_bit fresh in
-      let no_row : session_bit (session_at S.serving.servers s) ≡ 0 = ap session_bit fresh in
-      let few = h.rows.serving.messages.few in omega arith
 
   goes_on : (i number : ℕ) → MayGoOn (put_down i number) t (Some part.Send)
   goes_on i number = record {
@@ -155,7 +142,7 @@ module _ (script : Script) (S : State) (t : ObjNo) (row : ThreadRow) (instr : In
                 going = ap (λ (r : Option ThreadRow). is_returning (part_of r)) (kept_there i number) ∙ going;
               },
             ),
-            ((goes_on i number, spare_made i number, refl), tt),
+            ((goes_on i number, refl), tt),
           ),
         ),
       ),
@@ -244,15 +231,10 @@ may_call {script = script} {S = S} {t = t} {row = row} servers s o h going first
       );
     }
 
--- `connect` opens its session
-opens_spare : {script : Script} {S : State} {t : ObjNo} {row : ThreadRow} {instr : Instr}
-    → IsStepping script S t row instr → row.part ≡ Some part.Send → HasSpare (moved t (move.GoOn t part.Done) S)
-opens_spare {S = S} {t = t} {row = row} h at =
-    let all = total-with sending_bit (option_map (with_part part.Done)) None S.references.threads t.0 refl in
-    let old : sending_bit (thread_of S t) ≡ 1 = ap sending_bit h.is ∙ ap is_sending at in
-    let new : sending_bit (option_map (with_part part.Done) (thread_of S t)) ≡ 0 =
-    ap (λ (r : Option ThreadRow). sending_bit (option_map (with_part part.Done) r)) h.is in
-    let few = h.rows.serving.messages.few in omega arith
+-- `connect` opens its session, which is one to open
+to_open : (b : Bool) (server : Option ObjNo) (o : ObjNo) → (if b then server else None) ≡ Some o → (b ≡ true) × (server ≡ Some o)
+to_open true server o e = (refl, e)
+to_open false server o e = absurd (cc)
 
 -- and has a number
 opens_number : {script : Script} {S : State} {t : ObjNo} {row : ThreadRow} {instr : Instr}
@@ -271,12 +253,14 @@ fits-connect_send : {script : Script} {S : State} {t : ObjNo} {row : ThreadRow} 
     → session_made S t row ≡ made → FitsDecision calling script t S (connect_send S t row made)
 fits-connect_send {script = script} {S = S} {t = t} None h going at is = fits-nothing script S t
 fits-connect_send {script = script} {S = S} {t = t} {row = row} (Some s) h going at is =
-    fits-unless (Of word.Connect part.Send) refl _ h (λ none. by none (open_server S s) refl)
+    fits-unless (Of word.Connect part.Send) refl _ h (λ none. by none (server_to_open S s) refl)
   where
-    by : held_by S.synchronization.nano t ≡ None → (server : Option ObjNo) → open_server S s ≡ server
+    by : held_by S.synchronization.nano t ≡ None → (server : Option ObjNo) → server_to_open S s ≡ server
         → FitsDecision calling script t S (send_connect S t row s server)
-    by none None accepts = fits-fail part.Send refl s (error_code error.ServerTerminated) h going is
-    by none (Some o) accepts =
+    by none None opens = fits-fail part.Send refl s (error_code error.ServerTerminated) h going is
+    by none (Some o) to =
+        let parts = to_open (is_to_open (session_at S.serving.servers s)) (open_server S s) o to in
+        let accepts = parts.1 in
         let handle = handle_named row.found s h is in
         let servers = (moved t (move.Servers (SetOpen s true)) S).serving.servers in
         let session = open_session S s o accepts in
@@ -289,9 +273,9 @@ fits-connect_send {script = script} {S = S} {t = t} {row = row} (Some s) h going
         (mapped-some (opened true) S.serving.servers.sessions s.0 s.0 ∙ session)) in
         record {
           each = (
-            (last_step h, tt, refl),
+            (last_step h, refl),
             (
-              (session, opens_spare h at, opens_number h at),
+              (parts.0, opens_number h at),
               (
                 (
                   none,
@@ -377,7 +361,7 @@ fits-send_to {script = script} {S = S} {t = t} {row = row} s function y args (So
     fits-answers (Of word.Send part.Do) refl (move.GoOn t part.Done ∷ move.Requests (SetPending t y) ∷ ms) (pos 0)
     (tame-both (move.GoOn t part.Done ∷ move.Requests (SetPending t y) ∷ []) ms
     (let few = sends.calm.loses in omega arith) (tame-going _ refl refl refl) (tame-calling sends.calm))
-    ((last_step h, tt, refl), (((has_signals h, small), tt), sends.each))
+    ((last_step h, refl), (((has_signals h, small), tt), sends.each))
     (stay-perform script t (move.GoOn t part.Done ∷ move.Requests (SetPending t y) ∷ ms) S (
       stays-go_on script t _ part.Done refl,
       (stays-requests script t _, stay-post script S t s o function args (Async y)),
@@ -415,7 +399,7 @@ fits-call_to {script = script} {S = S} {t = t} {row = row} s function args (Some
     (awaits_there S.serving.servers h) uses) (open_session S s o accepts)) in
     record {
       each = (
-        (last_step h, tt, refl),
+        (last_step h, refl),
         (
           (
             none,

@@ -1,6 +1,6 @@
 -- Steps that several instructions share: a look, a find and its return, and a new handle.
 use Rattle.std.proofs.Common.{◌≡◌, ℕ, ◌<◌, ◌≤◌, List, [], ◌∷◌, arith, refl, ap, Option, Some, None, Bool, true, false, ◌∙◌}
-use Rattle.std.specs.Prelude.{is_some, not, option_map, slice_index, if◌then◌else◌}
+use Rattle.std.specs.Prelude.{is_some, not, ◌==◌, option_map, slice_index, if◌then◌else◌}
 use Rattle.sym_base.specs.declared.kind.Kind.{Kind}
 use Rattle.sym_base.specs.declared.number.ObjNo.{ObjNo}
 use Rattle.sym_base.specs.declared.word.Word.{Word}
@@ -16,6 +16,7 @@ use Rattle.machine.specs.declared.handles.NewHandle.{NewHandle}
 use Rattle.machine.specs.declared.moves.Move.{Move}
 use Rattle.machine.specs.declared.moves.Move.TheVariants.{Gain, Miss}
 use Rattle.state_rows.specs.Nano.{held_by}
+use Rattle.state_rows.specs.ObjectRows.{place_of}
 use Rattle.state_rows.specs.declared.object.ObjectRow.{ObjectRow}
 use Rattle.state_rows.specs.declared.thread.ThreadRow.{ThreadRow}
 use Rattle.machine.specs.declared.state.State.{State}
@@ -28,22 +29,21 @@ use Rattle.machine.specs.Moves.{moved, with_missed}
 use Rattle.machine.specs.Out.{found_object, is_returning, part_of}
 use Rattle.machine.specs.Look.{look, look_at}
 use Rattle.machine.specs.ThreadCalls.{is_live}
-use Rattle.machine.specs.Fits.{ComesBack, IsFree, most_told, most_owed}
-use Rattle.machine.specs.FitsServers.{MaySend}
+use Rattle.machine.specs.Fits.{ComesBack, IsFree, MayMiss, most_told, most_owed}
 use Rattle.machine.specs.WellFormed.{AreRows, IsAlive, is_before_use, is_spent}
 use Rattle.move_laws.proofs.Holders.ThreadRows.{row-here}
 use Rattle.move_laws.proofs.Lists.Cases.{if_cases}
 use Rattle.move_laws.proofs.RowLaws.Tables.{free_index_inside, object_of_is}
 use Rattle.machine_laws.proofs.Fitting.Regular.{IsTame, Kinds, finds_by_name, plain}
 use Rattle.machine_laws.proofs.Fitting.Tame.{may_tell, regular-find, regular-miss, regular-open, tame-going}
-use Rattle.machine_laws.proofs.Fitting.Living.{handle_is_counted, open_is_alive, found_counted, found_inside}
+use Rattle.machine_laws.proofs.Fitting.Living.{handle_is_counted, open_is_alive, found_counted, found_there}
 use Rattle.machine_laws.proofs.Fitting.Stepping.{FitsDecision, IsStepping, before_begins, fits-refuse, fits-use, fits-handle, unspent}
 use Rattle.state_rows.specs.declared.thread.Stage.{Stage}
 use Rattle.state_rows.specs.declared.thread.Stage.TheVariants.{Live, Doomed}
 use Rattle.machine.specs.Holdings.{left_of, stage_left}
 use Rattle.machine.specs.References.{count_of, total}
 use Rattle.move_laws.proofs.Lists.Totals.{total_at_least, inside}
-use Rattle.std.proofs.lemmas.Bool.{eq-eqb}
+use Rattle.std.proofs.lemmas.Bool.{and_from, eq-eqb}
 
 -- a look at a handle
 pub fits-look : {k : Kinds} {script : Script} {S : State} {t : ObjNo} {row : ThreadRow} {instr : Instr} (word : Word)
@@ -54,7 +54,7 @@ fits-look {k = k} {script = script} {S = S} {t = t} {row = row} word x uses goes
   where
     found : (named : Option ObjNo) → object_at S t row (slice_index row.registers x) ≡ named → FitsDecision k script t S (look_at t word named)
     found None e = fits-refuse (Of word Look) refl BadHandle h
-    found (Some o) e = fits-use (Of word Look) refl o Do uses goes h before refl tt (handle_is_counted S _ _ o (object_of_is _ _ _ o e))
+    found (Some o) e = fits-use (Of word Look) refl o Do uses goes h before refl (handle_is_counted S _ _ o (object_of_is _ _ _ o e))
 
 -- a find by name, by a thread that holds no fast mutex
 pub fits-seek : {k : Kinds} {script : Script} {S : State} {t : ObjNo} {row : ThreadRow} {instr : Instr} (word : Word)
@@ -70,7 +70,7 @@ fits-seek {k = k} {script = script} {S = S} {t = t} {row = row} word kind name g
       each = (
         (
           record {
-            object = found_inside S kind name o e;
+            object = found_there S kind name o e;
             row = row;
             is = h.is;
             at = h.next;
@@ -99,19 +99,19 @@ fits-seek {k = k} {script = script} {S = S} {t = t} {row = row} word kind name g
     }
 
 -- a thread that comes back from a find of an object that isn't open misses it
-missed_not : (row : Option ObjectRow) → is_open row ≡ false → IsAlive row → ⊥
-missed_not None e alive = absurd alive
-missed_not (Some row) e alive = let opened : not row.dead ≡ true = ap not alive in cc
+missed_not : (place : ℕ) (row : Option ObjectRow) → is_open place row ≡ false → IsAlive row → place_of row ≡ place → ⊥
+missed_not place None e alive same = absurd alive
+missed_not place (Some row) e alive same =
+    let opened = and_from (not row.dead) (row.place == place) (ap not alive) (eq-eqb row.place place same) in cc
 
 -- and its return
 pub fits-return : {k : Kinds} (script : Script) (S : State) (t : ObjNo) (row : ThreadRow) (word : Word) (part : Part)
     → k.uses ≡ true → k.goes ≡ true → AreRows script S → thread_of S t ≡ Some row → is_returning row.part ≡ true
-    → is_before_use (Some part) ≡ false → MaySend (Some part) S
-    → FitsDecision k script t S (return_to S t row word part)
-fits-return {k = k} script S t row word part uses goes rows is returns later sends =
-    if_cases (FitsDecision k script t S) (is_open (object_of S (found_object row))) _ _
-    (λ e. record {
-      each = ((record { back = back; alive = open_is_alive (object_of S (found_object row)) e; later = later; sends = sends }, refl), tt);
+    → is_before_use (Some part) ≡ false → FitsDecision k script t S (return_to S t row word part)
+fits-return {k = k} script S t row word part uses goes rows is returns later =
+    if_cases (FitsDecision k script t S) (is_open row.sought (object_of S (found_object row))) _ _
+    (λ e. let opened = open_is_alive row.sought (object_of S (found_object row)) e in record {
+      each = ((record { back = back; alive = opened.0; same = opened.1; later = later }, refl), tt);
       told = omega arith;
       light = omega arith;
       regular = regular-open t word (found_object row) part uses goes returning;
@@ -127,10 +127,13 @@ fits-return {k = k} script S t row word part uses goes rows is returns later sen
     there : thread_of (moved t (Miss t (found_object row)) S) t ≡ Some (with_missed row)
     there = row-here S.references.threads t with_missed t.0 refl ∙ ap (option_map with_missed) is
 
-    missed : is_open (object_of S (found_object row)) ≡ false → (live : Bool) → FitsDecision k script t S (miss t word (found_object row) live)
+    misses : is_open row.sought (object_of S (found_object row)) ≡ false → MayMiss S t (found_object row)
+    misses e = record { back = back; over = missed_not row.sought (object_of S (found_object row)) e }
+
+    missed : is_open row.sought (object_of S (found_object row)) ≡ false → (live : Bool) → FitsDecision k script t S (miss t word (found_object row) live)
     missed e true = record {
       each = (
-        ((back, missed_not (object_of S (found_object row)) e), refl),
+        (misses e, refl),
         (
           (
             refl,
@@ -145,7 +148,7 @@ fits-return {k = k} script S t row word part uses goes rows is returns later sen
       regular = regular-miss t word (found_object row) true goes returning;
     }
     missed e false = record {
-      each = (((back, missed_not (object_of S (found_object row)) e), refl), tt);
+      each = ((misses e, refl), tt);
       told = omega arith;
       light = omega arith;
       regular = regular-miss t word (found_object row) false goes returning;

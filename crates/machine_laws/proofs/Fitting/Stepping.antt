@@ -33,7 +33,6 @@ use Rattle.machine.specs.HeldIn.{owed_by}
 use Rattle.machine.specs.Task.{instruction, instructions_of, served_queue}
 use Rattle.machine.specs.Out.{is_returning, part_of}
 use Rattle.machine.specs.Fits.{EachFits, most_told, most_owed, IsAtInstruction, IsBack, MayGoOn, IsFree, IsLive, IsUnspent}
-use Rattle.machine.specs.FitsServers.{MaySend}
 use Rattle.machine.specs.WellFormed.{AreRows, is_before_use, is_spent, IsLiveThread}
 use Rattle.move_laws.proofs.Holders.ThreadRows.{row-here}
 use Rattle.move_laws.proofs.Lists.Totals.{inside, total-append, total-with}
@@ -242,10 +241,10 @@ counted-with_row S u f link uses stage o some =
 pub fits-use : {k : Kinds} {script : Script} {S : State} {t : ObjNo} {row : ThreadRow} {instr : Instr} (told : Step)
     (named : may_tell k told ≡ true) (o : ObjNo) (part : Part)
     → k.uses ≡ true → k.goes ≡ true → IsStepping script S t row instr → is_before_use row.part ≡ true
-    → is_before_use (Some part) ≡ false → MaySend (Some part) S → 0 < count_of S o
+    → is_before_use (Some part) ≡ false → 0 < count_of S o
     → FitsDecision k script t S (go_on t told (Gain (Temp t) o) part)
-fits-use {script = script} {S = S} {t = t} {row = row} told named o part uses goes h before later sends counted = record {
-  each = ((may_go_on part h (let none = before_begins row.part before in omega arith) later, sends, refl), ((free, still, refl), tt));
+fits-use {script = script} {S = S} {t = t} {row = row} told named o part uses goes h before later counted = record {
+  each = ((may_go_on part h (let none = before_begins row.part before in omega arith) later, refl), ((free, still, refl), tt));
   told = omega arith;
   light = omega arith;
   regular = regular-use t told o part named uses goes;

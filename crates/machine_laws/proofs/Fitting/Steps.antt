@@ -1,7 +1,6 @@
 -- The steps of each instruction.
-use Rattle.std.proofs.Common.{◌≡◌, ◌≢◌, ℕ, ◌<◌, ◌≤◌, List, ◌∷◌, arith, refl, ap, Option, Some, None, Bool, true, false, []}
+use Rattle.std.proofs.Common.{◌≡◌, ◌≢◌, ℕ, ◌<◌, ◌≤◌, List, ◌∷◌, arith, refl, sym, ap, subst, Option, Some, None, Bool, true, false, []}
 use Rattle.std.proofs.lemmas.Bool.{eq-eqb}
-use Rattle.std.proofs.lemmas.List.{length_push}
 use Rattle.std.specs.Prelude.{pos, if◌then◌else◌, is_some, slice_index}
 use Rattle.sym_base.specs.declared.error.Error.TheVariants.{AlreadyExists, Overflow, PermissionDenied, BadHandle}
 use Rattle.sym_base.specs.declared.kind.Kind.{Kind}
@@ -31,6 +30,7 @@ use Rattle.state_rows.specs.HandleNumbers.{index_of, is_local}
 use Rattle.machine.specs.Closing.{close_moves}
 use Rattle.machine.specs.Moves.{moved, perform, next_object, new_object, no_number_left}
 use Rattle.move_laws.proofs.Lives.Fresh.{next_fresh}
+use Rattle.move_laws.proofs.Lives.NewObjects.{made-own, next_number_is}
 use Rattle.machine.specs.References.{count_of, stage_holds, total}
 use Rattle.machine.specs.Close.{close_do, close_handle}
 use Rattle.machine.specs.Create.{start_moves, create_do, create_mutex_do, create_semaphore_do, make_with_handle}
@@ -39,7 +39,7 @@ use Rattle.machine.specs.Dup.{dup_do, dup_step, duplocal_step, stays_with_thread
 use Rattle.machine.specs.Open.{open_do, open_step}
 use Rattle.machine.specs.Out.{is_returning}
 use Rattle.machine.specs.Fits.{EachFits, HasName, IsFree, most_told, most_owed}
-use Rattle.machine.specs.WellFormed.{is_before_use}
+use Rattle.machine.specs.WellFormed.{IsAlive, is_before_use}
 use Rattle.move_laws.proofs.Numbers.FewEffects.{lock-tells, lock-owes}
 use Rattle.move_laws.proofs.Lists.Cases.{if_cases}
 use Rattle.move_laws.proofs.Numbers.Registers.{count_few}
@@ -50,7 +50,7 @@ use Rattle.machine_laws.proofs.Fitting.KernelThreads.{fits-unless}
 use Rattle.machine_laws.proofs.Fitting.Stepping.{FitsDecision, FitsStep, IsStepping, answers_step, by_kinds, fits-handle, fits-nothing, fits-refuse, ends_here}
 use Rattle.machine_laws.proofs.Fitting.Staying.{stay-perform}
 use Rattle.machine_laws.proofs.Fitting.Shared.{fits-look, fits-seek, fits-give, fits-give_own, of_process_handle}
-use Rattle.machine_laws.proofs.Fitting.Regular.{IsTame, looking, plain, calling}
+use Rattle.machine_laws.proofs.Fitting.Regular.{IsTame, calling, looking, once_bit, plain}
 use Rattle.machine_laws.proofs.Fitting.Tame.{may_tell, tame-both, tame-in, tame-moves, tame-going}
 
 -- what follows the making of an object fits then, leaves the threads, and is tame
@@ -67,11 +67,16 @@ start_owed : (start : Option LockMove) → total most_owed (start_moves start) �
 start_owed None = omega arith
 start_owed (Some m) = let few = lock-owes m in omega arith
 
+start_once : (start : Option LockMove) → total once_bit (start_moves start) ≡ 0
+start_once None = refl
+start_once (Some m) = refl
+
 -- there is room for an object where objects aren't full
 pub room_left : {script : Script} {S : State} {t : ObjNo} {row : ThreadRow} {instr : Instr}
     → IsStepping script S t row instr → no_number_left S ≡ false → (next_object S).0 < OBJECTS
 room_left {S = S} h room =
     let few = h.rows.references.sized.objects_few in
+    let le = (next_number_is S.mode.reuse S.references.objects).0 in
     let apart : (next_object S).0 ≢ OBJECTS = λ e. cc (eq-eqb (next_object S).0 OBJECTS e) in
     omega arith
 
@@ -96,7 +101,7 @@ fits-create {script = script} {S = S} {t = t} {row = row} kind name start x name
         fits-handle (Of word.Create part.Do) refl
         (Make kind name (InProcess row.process i) ∷ start_moves start) x number
         (tame-both (Make kind name (InProcess row.process i) ∷ []) (start_moves start)
-        (let few = (begins i).calm.loses in omega arith) (tame-going _ refl refl refl) (tame-in (begins i).calm)) h
+        (let none = start_once start in omega arith) (tame-going _ refl refl refl) (tame-in (begins i).calm)) h
         register ((record { room = room; new = new }, free, named, tt), (begins i).each) (begins i).threads
         (omega arith) (omega arith)
 
@@ -114,7 +119,9 @@ fits-create_semaphore {script = script} {S = S} name count x h =
     fits-create Semaphore name (Some (Start (next_object S) count)) x (λ e. absurd (cc)) h h.registers (λ i. record {
       each = (
         record {
-          object = let longer = length_push S.references.objects (Some (new_object Semaphore name)) in omega arith;
+          object =
+              subst IsAlive (sym (made-own S.references.objects (next_object S).0 (new_object Semaphore name S.references.made)
+              (next_number_is S.mode.reuse S.references.objects).0)) refl;
           few = count_few name count x h.ranges;
           free = (next_fresh script S h.rows).owner;
           alone = (next_fresh script S h.rows).waiters;

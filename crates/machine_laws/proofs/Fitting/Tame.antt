@@ -31,7 +31,7 @@ use Rattle.machine.specs.EntryWords.{is_clean, is_send, makes_server}
 use Rattle.machine.specs.Steps.{pay}
 use Rattle.move_laws.proofs.Lists.Totals.{total-append}
 use Rattle.move_laws.proofs.References.Same.{eqb_apart, if_not, same_is}
-use Rattle.machine_laws.proofs.Fitting.Regular.{Kinds, plain, cleaning_bit, advance_bit, closed_bit, doomed_bit, mutex_bit, serving_bit, gained_bit, use_bit, answer_bit, IsFinding, IsRegular, IsTame, coming_bit, find_bit, finding_bit, going_bit, serving, calling, going, going_late, loss_bit, return_bit}
+use Rattle.machine_laws.proofs.Fitting.Regular.{Kinds, plain, cleaning_bit, advance_bit, closed_bit, doomed_bit, mutex_bit, serving_bit, gained_bit, use_bit, answer_bit, IsFinding, IsRegular, IsTame, coming_bit, find_bit, finding_bit, going_bit, serving, calling, going, going_late, once_bit, return_bit}
 
 -- whether a kind may tell this step: it is no cleaning and no return, no `send` where the kind doesn't serve, and makes no server where it changes
 -- mutexes
@@ -63,9 +63,9 @@ abbrev each_tame : Kinds → List Move → Bool
 each_tame k [] = true
 each_tame k (m ∷ ms) = is_tame_move k m && each_tame k ms
 
--- and one of them at most gives a reference up
+-- and one of them at most gives a reference up or makes an object
 abbrev pub are_tame : Kinds → List Move → Bool
-are_tame k ms = each_tame k ms && nat_lt (total loss_bit ms) 2
+are_tame k ms = each_tame k ms && nat_lt (total once_bit ms) 2
 
 abbrev pub is_tame : Kinds → Decision → Bool
 is_tame k d = (going_late d.moves == 0) && ((total advance_bit d.moves == answer_bit d.answer) && (are_tame plain d.moves && may_tell k d.step))
@@ -171,9 +171,9 @@ module _ (k : Kinds) (ms : List Move) (e : each_tame k ms ≡ true) where
 -- moves of a kind, and moves that are of any
 pub tame-at : (k : Kinds) {n : ℕ} (ms : List Move) → are_tame k ms ≡ true → total advance_bit ms ≡ n → IsTame k n ms
 tame-at k ms e ends =
-    let parts = and_parts (each_tame k ms) (nat_lt (total loss_bit ms) 2) e in
+    let parts = and_parts (each_tame k ms) (nat_lt (total once_bit ms) 2) e in
     let each = parts.0 in
-    let few = ltb-true (total loss_bit ms) 2 parts.1 in
+    let few = ltb-true (total once_bit ms) 2 parts.1 in
     record {
       cleans = seen-cleans k ms each;
       advances = ends;
@@ -240,7 +240,7 @@ tame-calling h = record {
 }
 
 -- moves one behind the other
-pub tame-both : {k : Kinds} {n m : ℕ} (xs ys : List Move) → total loss_bit xs + total loss_bit ys ≤ 1 → IsTame k n xs
+pub tame-both : {k : Kinds} {n m : ℕ} (xs ys : List Move) → total once_bit xs + total once_bit ys ≤ 1 → IsTame k n xs
     → IsTame k m ys → IsTame k (n + m) (xs ++ ys)
 tame-both xs ys few h g = record {
   cleans = let both = total-append cleaning_bit xs ys in let p = h.cleans in let q = g.cleans in omega arith;
@@ -252,7 +252,7 @@ tame-both xs ys few h g = record {
   mutexes = λ e. let both = total-append mutex_bit xs ys in let p = h.mutexes e in let q = g.mutexes e in omega arith;
   goes = λ e. let both = total-append going_bit xs ys in let p = h.goes e in let q = g.goes e in omega arith;
   uses = λ u. let both = total-append (use_bit u) xs ys in let p = h.uses u in let q = g.uses u in omega arith;
-  loses = let both = total-append loss_bit xs ys in omega arith;
+  loses = let both = total-append once_bit xs ys in omega arith;
   finds = λ o. let both = total-append (find_bit o) xs ys in let p = h.finds o in let q = g.finds o in omega arith;
   comes = let both = total-append coming_bit xs ys in let p = h.comes in let q = g.comes in omega arith;
 }
@@ -423,7 +423,7 @@ regular-open {k = k} t word o part uses goes returning = record {
 missing : {k : Kinds} {script : Script} {S : State} (t : ObjNo) (word : Word) (ms : List Move) (answered : Option ℤ)
     → total advance_bit ms ≡ answer_bit answered → ((v : ObjNo) → total (closed_bit v) ms ≡ total (doomed_bit v) ms)
     → total serving_bit ms ≡ 0 → total mutex_bit ms ≡ 0
-    → going_late ms ≡ 0 → total cleaning_bit ms ≡ 0 → ((u : ObjNo) → total (use_bit u) ms ≡ 0) → total loss_bit ms ≡ 0
+    → going_late ms ≡ 0 → total cleaning_bit ms ≡ 0 → ((u : ObjNo) → total (use_bit u) ms ≡ 0) → total once_bit ms ≡ 0
     → ((o : ObjNo) → total (find_bit o) ms ≡ 0) → total coming_bit ms ≡ 1 → k.goes ≡ true
     → is_returning (part_of (thread_of S t)) ≡ true
     → IsRegular k script S t (record { step = Of word Return; moves = ms; answer = answered })

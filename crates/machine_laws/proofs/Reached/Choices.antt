@@ -67,7 +67,7 @@ use Rattle.move_laws.proofs.Lists.Totals.{inside}
 use Rattle.machine_laws.proofs.Fitting.Actions.{fits-action, regular-action}
 use Rattle.machine_laws.proofs.Fitting.Bodies.{OwesNothing, light-leave, light-op, light_loses, sane-light}
 use Rattle.machine_laws.proofs.Fitting.Interrupts.{light-immediate, light-interrupt, sane-supervisor}
-use Rattle.machine_laws.proofs.Fitting.Regular.{loss_bit, plain}
+use Rattle.machine_laws.proofs.Fitting.Regular.{once_bit, plain}
 use Rattle.machine_laws.proofs.Reached.Modes.{kept-same, mode-next}
 
 -- 1 for a move that gives a reference up, its thread's own or one that is owed
@@ -299,9 +299,9 @@ same-or-part script t (Lose h o ∷ ms) S few = closes-one script t (Lose h o) h
 same-or-part script t (Pay (Close h o) ∷ ms) S few = closes-one script t (Pay (Close h o)) h o ms S (pay-closes t h o) (omega arith)
 same-or-part script t (m ∷ ms) S few = behind script t m ms S (blind t m S refl) (same-or-part script t ms (moved t m S) (omega arith))
 
--- an action of a thread gives one reference up at most
-pub no-pay : (script : Script) (t : ObjNo) (ms : List Move) (S : State) → EachFits script t ms S → total close_bit ms ≡ total loss_bit ms
-no-pay script t [] S fits = refl
+-- an action of a thread gives one reference up at most, and makes no object then
+pub no-pay : (script : Script) (t : ObjNo) (ms : List Move) (S : State) → EachFits script t ms S → total close_bit ms ≤ total once_bit ms
+no-pay script t [] S fits = omega arith
 no-pay script t (Pay what ∷ ms) S fits = absurd fits.0
 no-pay script t (m ∷ ms) S fits = let rest = no-pay script t ms (moved t m S) fits.1 in omega arith
 
@@ -319,7 +319,7 @@ closes-few script S t shaped rows = elim (fits-action script S t shaped rows) as
 
 -- what is done without a thread, or by a body, gives none up
 light-blind : (script : Script) (t : ObjNo) (S : State) (ms : List Move) (n : ℕ) → OwesNothing plain script t S ms n → AreBlind script t ms S
-light-blind script t S ms n light = blind-all script t ms S (no-pay script t ms S light.each ∙ light_loses light)
+light-blind script t S ms n light = blind-all script t ms S (let most = no-pay script t ms S light.each in let none = light_loses light refl in omega arith)
 
 -- a body does the same with either choice
 op-same : (script : Script) (S : State) (keep : Bool) (operation : Op) → op_moves script (keeping keep S) operation ≡ op_moves script S operation
@@ -421,7 +421,7 @@ carried-by script t S decide same few =
     (subst (λ (d : Decision). BothOut script t S (decide S) d) (sym (same false)) (carried-out script t S (decide S) few))
 
 light-few : (script : Script) (t : ObjNo) (S : State) (ms : List Move) (n : ℕ) → OwesNothing plain script t S ms n → total close_bit ms ≤ 1
-light-few script t S ms n light = let same = no-pay script t ms S light.each in let none = light_loses light in omega arith
+light-few script t S ms n light = let same = no-pay script t ms S light.each in let none = light_loses light refl in omega arith
 
 pub plan-same : (script : Script) (S : State) (keep : Bool) (found : Option Item) → AreRows script S
     → decision_by script supervisor (keeping keep S) (immediate_plan script (keeping keep S) found)

@@ -95,3 +95,9 @@ able-kept script S keep (Irq k) able = able
 able-kept script S keep Idfc able = able
 able-kept script S keep Tick able = able
 able-kept script S keep Idle able = record { none = able.none; nobody = able.nobody }
+
+-- numbers are used again in each state or in none
+pub reuse-after : (script : Script) (S : State) (es : List Entry) → (after_from script S es).mode.reuse ≡ S.mode.reuse
+reuse-after script S [] = refl
+reuse-after script S (e ∷ es) =
+    reuse-after script (next_by script S e) es ∙ ap (λ (m : Mode). m.reuse) (mode-next script (choosing e S) e.actor)

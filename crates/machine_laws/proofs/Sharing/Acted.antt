@@ -10,7 +10,6 @@ use Rattle.state_rows.specs.Deferred.{next_immediate}
 use Rattle.state_rows.specs.Nano.{wanted_holder}
 use Rattle.state_rows.specs.declared.thread.ThreadRow.{ThreadRow}
 use Rattle.machine.specs.declared.decision.Decision.{Decision}
-use Rattle.machine.specs.declared.mode.Mode.{Mode}
 use Rattle.machine.specs.declared.plan.Body.TheVariants.{Interrupt}
 use Rattle.machine.specs.declared.plan.Plan.{Plan}
 use Rattle.machine.specs.declared.plan.Plan.TheVariants.{Runs}
@@ -49,7 +48,7 @@ unless_out false has free = refl
 
 module _ (script : Script) (keep : Bool) (S : State) (alone : IsAlone S) where
   shared-not : S.mode.shared ≡ false
-  shared-not = ap (λ (m : Mode). m.shared) alone
+  shared-not = alone.0
 
   abbrev able_with : ObjNo → Bool → Option Task → Bool
   able_with t waits task = not waits && not (is_stopped S t) && is_some task && is_none (wanted_holder S.synchronization.nano t)

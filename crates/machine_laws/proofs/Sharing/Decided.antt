@@ -27,7 +27,7 @@ use Rattle.machine.specs.Task.{by_stage, instruction, live_task, next_call, pay_
 use Rattle.machine.specs.ServerMoves.{owned_by}
 use Rattle.entry_log.specs.declared.effect.Holder.TheVariants.{InThread}
 use Rattle.machine_laws.proofs.Reached.Modes.{mode-perform}
-use Rattle.machine_laws.proofs.Sharing.Moved.{in_mode, IsAlone, TellsNoDeath, perform-mode, silent-front, silent-rest, tell-both}
+use Rattle.machine_laws.proofs.Sharing.Moved.{alone-like, in_mode, IsAlone, TellsNoDeath, perform-mode, silent-front, silent-rest, tell-both}
 
 module _ (script : Script) (keep : Bool) (S : State) (t : ObjNo) where
   -- what a thread has, and so its task
@@ -71,7 +71,8 @@ ops-mode script keep t S (first ∷ rest) alone silent =
     let more = ops_moves script t T rest in
     let both : TellsNoDeath keep (tell t ms S ++ tell t more T) = subst (TellsNoDeath keep) (tell-both t ms more S) silent in
     ap (λ (U : State). ms ++ ops_moves script t U rest) (perform-mode keep t ms S alone (silent-front keep (tell t ms S) (tell t more T) both))
-    ∙ ap (λ (l : List Move). ms ++ l) (ops-mode script keep t T rest (mode-perform S t ms ∙ alone) (silent-rest keep (tell t ms S) (tell t more T) both))
+    ∙ ap (λ (l : List Move). ms ++ l) (ops-mode script keep t T rest (alone-like S T (mode-perform S t ms) alone)
+    (silent-rest keep (tell t ms S) (tell t more T) both))
 
 -- what a body does
 pub body-mode : (script : Script) (keep : Bool) (t : ObjNo) (S : State) (body : Body) → IsAlone S
@@ -85,7 +86,7 @@ body-mode script keep t S body alone silent =
     ap with
     (ap (λ (U : State). leave ++ ops_moves script t U (ops_of script body))
     (perform-mode keep t leave S alone (silent-front keep (tell t leave S) (tell t more T) both))
-    ∙ ap (λ (l : List Move). leave ++ l) (ops-mode script keep t T (ops_of script body) (mode-perform S t leave ∙ alone)
+    ∙ ap (λ (l : List Move). leave ++ l) (ops-mode script keep t T (ops_of script body) (alone-like S T (mode-perform S t leave) alone)
     (silent-rest keep (tell t leave S) (tell t more T) both)))
   where
     with : List Move → Decision

@@ -78,7 +78,10 @@ pub record LosesNone (ms : List Move) : Type 0 where
   pub stays : total coming_bit ms ≡ 0
 
 loses-light : (script : Script) (S : State) (t : ObjNo) (ms : List Move) (most : ℕ) → OwesNothing plain script t S ms most → LosesNone ms
-loses-light script S t ms most light = record { none = no-pay script t ms S light.each ∙ light_loses light; stays = light.calm.comes }
+loses-light script S t ms most light = record {
+  none = let most = no-pay script t ms S light.each in let none = light_loses light refl in omega arith;
+  stays = light.calm.comes;
+}
 
 pub keeps-interrupt : (script : Script) (S : State) (k : ℕ) → IsShaped script → AreRows script S → LosesNone (moves_of script S (Irq k))
 keeps-interrupt script S k shaped rows = loses-light script S supervisor _ 4 (light-interrupt script S k shaped rows)

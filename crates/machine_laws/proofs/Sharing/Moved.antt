@@ -19,11 +19,14 @@ use Rattle.machine_laws.proofs.Reached.Modes.{mode-moved}
 
 -- the state where callers share the kernel or don't, in an action that keeps what it closes or doesn't
 abbrev pub in_mode : Bool → Bool → State → State
-in_mode shared keep S = record S { mode = record { shared = shared; keep = keep } }
+in_mode shared keep S = record S { mode = record S.mode { shared = shared; keep = keep } }
 
 -- one caller is alone
 abbrev pub IsAlone : State → Type 0
-IsAlone S = S.mode ≡ record { shared = false; keep = false }
+IsAlone S = (S.mode.shared ≡ false) × (S.mode.keep ≡ false)
+
+pub alone-like : (S T : State) → T.mode ≡ S.mode → IsAlone S → IsAlone T
+alone-like S T mode alone = (ap (λ (m : Mode). m.shared) mode ∙ alone.0, ap (λ (m : Mode). m.keep) mode ∙ alone.1)
 
 -- an action that keeps what it closes tells of no death
 abbrev pub TellsNoDeath : Bool → List Effect → Type 0
@@ -57,7 +60,7 @@ dies-both true false sought false out alone none = refl
 dies-mode : (keep : Bool) (S : State) (o : ObjNo) → IsAlone S → (keep ≡ true → dies S o ≡ false) → dies (in_mode true keep S) o ≡ dies S o
 dies-mode keep S o alone none =
     dies-both (count_of S o == 1) S.mode.keep (nat_lt 0 (outs_of S o)) keep (nat_lt 0 (outs_of (in_mode true keep S) o))
-    (ap (λ (m : Mode). m.keep) alone) none
+    alone.1 none
 
 closed-silent : (dying : Bool) (h : Holder) (o : ObjNo) → is_deathless (closed_effects dying h o) ≡ true → dying ≡ false
 closed-silent true h o e = absurd (cc)
@@ -88,7 +91,7 @@ perform-mode keep t [] S alone silent = refl
 perform-mode keep t (m ∷ ms) S alone silent =
     let T = moved t m S in
     ap (perform t ms) (moved-mode keep t m S alone (silent-front keep (told m S) (tell t ms T) silent))
-    ∙ perform-mode keep t ms T (mode-moved S t m ∙ alone) (silent-rest keep (told m S) (tell t ms T) silent)
+    ∙ perform-mode keep t ms T (alone-like S T (mode-moved S t m) alone) (silent-rest keep (told m S) (tell t ms T) silent)
 
 pub tell-mode : (keep : Bool) (t : ObjNo) (ms : List Move) (S : State) → IsAlone S → TellsNoDeath keep (tell t ms S)
     → tell t ms (in_mode true keep S) ≡ tell t ms S
@@ -98,7 +101,8 @@ tell-mode keep t (m ∷ ms) S alone silent =
     let front = silent-front keep (told m S) (tell t ms T) silent in
     ap (λ (l : List Effect). l ++ tell t ms (moved t m (in_mode true keep S))) (told-mode keep m S alone front)
     ∙ ap (λ (U : State). told m S ++ tell t ms U) (moved-mode keep t m S alone front)
-    ∙ ap (λ (l : List Effect). told m S ++ l) (tell-mode keep t ms T (mode-moved S t m ∙ alone) (silent-rest keep (told m S) (tell t ms T) silent))
+    ∙ ap (λ (l : List Effect). told m S ++ l)
+    (tell-mode keep t ms T (alone-like S T (mode-moved S t m) alone) (silent-rest keep (told m S) (tell t ms T) silent))
 
 -- what moves tell, and others behind them
 pub tell-both : (t : ObjNo) (xs ys : List Move) (S : State) → tell t (xs ++ ys) S ≡ tell t xs S ++ tell t ys (perform t xs S)

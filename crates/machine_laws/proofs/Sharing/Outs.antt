@@ -13,6 +13,7 @@ use Rattle.entry_log.specs.declared.step.Part.TheVariants.{Return}
 use Rattle.state_rows.specs.declared.duty.Owed.{Owed}
 use Rattle.state_rows.specs.declared.duty.Owed.TheVariants.{Close, Sweep}
 use Rattle.state_rows.specs.Deferred.{next_immediate}
+use Rattle.state_rows.specs.ObjectRows.{place_of}
 use Rattle.state_rows.specs.declared.thread.Stage.{Stage}
 use Rattle.state_rows.specs.declared.thread.Stage.TheVariants.{Buried}
 use Rattle.state_rows.specs.declared.thread.ThreadRow.{ThreadRow}
@@ -32,7 +33,7 @@ use Rattle.machine.specs.Kept.{dies}
 use Rattle.machine.specs.Moves.{advanced, moved, next_object, perform, threads_closed, threads_gain, threads_lose, unlinked, with_found, with_kept, with_message, with_missed, with_opened, with_part, with_priority, with_register, with_use, with_waiting}
 use Rattle.machine.specs.Out.{is_returning, part_of}
 use Rattle.machine.specs.References.{kernel_holds, stage_holds, total}
-use Rattle.machine.specs.Rows.{owed_of, thread_of, with_row}
+use Rattle.machine.specs.Rows.{object_of, owed_of, thread_of, with_row}
 use Rattle.machine.specs.Steps.{decision_of}
 use Rattle.machine.specs.Transition.{act}
 use Rattle.machine.specs.Serving.{thread_bit}
@@ -116,7 +117,7 @@ out-moved script t (move.Lose h o) S fits =
     let b = out-closed (dies S o) o (threads_lose h S.references.threads) in
     omega arith
 out-moved script t (move.Find u o) S fits =
-    let f = with_found o in
+    let f = with_found o (place_of (object_of S o)) in
     let may = fits.0 in
     let a = total-with out_bit (option_map f) None S.references.threads u.0 refl in
     let old : out_bit (thread_of S u) ≡ 0 = ap out_bit may.is ∙ if_not (is_returning may.row.part) 1 may.going in
@@ -127,7 +128,7 @@ out-moved script t (move.Open u o part) S fits =
     (used_back part fits.0.later) in
     omega arith
 out-moved script t (move.Miss u o) S fits =
-    let back = fits.0.0 in
+    let back = fits.0.back in
     let a = out-back S.references.threads u with_missed back.row back.is back.returns refl in
     omega arith
 out-moved script t (move.GoOn u part) S fits =

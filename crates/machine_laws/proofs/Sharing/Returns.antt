@@ -44,7 +44,7 @@ step-back t o word next false true = refl
 step-back t o word next false false = refl
 
 step-return : (S : State) (t : ObjNo) (row : ThreadRow) (word : Word) (next : Part) → is_return (return_to S t row word next).step ≡ true
-step-return S t row word next = step-back t (found_object row) word next (is_open (object_of S (found_object row))) (is_live row.stage)
+step-return S t row word next = step-back t (found_object row) word next (is_open row.sought (object_of S (found_object row))) (is_live row.stage)
 
 module _ (script : Script) (S : State) (t : ObjNo)
     (at_finds : (row : ThreadRow) → thread_of S t ≡ Some row → is_returning row.part ≡ true

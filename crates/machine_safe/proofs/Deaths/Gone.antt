@@ -136,7 +136,8 @@ owed-body script S body u shaped rows =
     let leave = leave_queue S body in
     let left = light-leave script S supervisor body rows in
     let done = light-ops script (perform supervisor leave S) supervisor (ops_of script body) (sane-light script S supervisor leave 0 left s) in
-    let light = light-then script S supervisor leave _ 0 (length (ops_of script body)) 4 (let short = short_body script body shaped in omega arith) left done in
+    let light = light-then script S supervisor leave _ 0 (length (ops_of script body)) 4
+    (let short = short_body script body shaped in omega arith) left done refl in
     each-owed script S supervisor (run_body script supervisor S body).moves u light.each (inr light.light)
 
 owed-interrupt : (script : Script) (S : State) (k : ℕ) (u : ObjNo) → IsShaped script → AreRows script S → owed_of (interrupt script S k).state u ≡ owed_of S u

@@ -82,14 +82,14 @@ unheld-own script S t (InThread u i) o rows h own =
     let slot = no-slot-names (not (is_some (thread_of S u))) o (slot_at (table_of S u) i)
     (ap (λ (v : ObjNo). (slot_at (table_of S v) i).object) (sym at) ∙ h.has.empty i) in
     let owed = none_owed S.references.threads S.serving.servers S.serving.messages.accepted S.references.owed
-    (InThread u i) o rows.references.duties (λ k y own. own) in
+    (InThread u i) o rows.references.duties (λ k y later behind own. own) in
     omega arith
 unheld-own script S t (Temp u) o rows h own =
     let at : t ≡ u = sym (same_object u t (eqb-true u.0 t.0 own)) in
     let uses : use_names o (thread_of S u) ≡ 0 = ap (λ (v : ObjNo). use_names o (thread_of S v)) (sym at)
     ∙ (ap (use_names o) h.is ∙ ap (option_names o) h.has.unused) in
     let owed = none_owed_by S.references.threads S.serving.servers S.serving.messages.accepted S.references.owed u
-    (Temp u) o rows.references.duties (λ k y own. own)
+    (Temp u) o rows.references.duties (λ k y later own. own)
     (ap (λ (v : ObjNo). total (owed_by (Temp u) o) (owed_of S v)) (sym at) ∙ ap (total (owed_by (Temp u) o)) h.paid) in
     omega arith
 unheld-own script S t (Own u) o rows h own =
@@ -99,7 +99,7 @@ unheld-own script S t (Own u) o rows h own =
     ∙ ap (total (mutex_names o)) h.has.mutexes in
     let owned : times_owned S.serving.owned u o ≡ 0 = ap (λ (v : ObjNo). times_owned S.serving.owned v o) (sym at) ∙ ap (total (mutex_names o)) h.owned in
     let owed = none_owed_by S.references.threads S.serving.servers S.serving.messages.accepted S.references.owed u
-    (Own u) o rows.references.duties (λ k y own. own)
+    (Own u) o rows.references.duties (λ k y later own. own)
     (ap (λ (v : ObjNo). total (owed_by (Own u) o) (owed_of S v)) (sym at) ∙ ap (total (owed_by (Own u) o)) h.paid) in
     omega arith
 unheld-own script S t _ o rows h own = absurd (cc)
@@ -162,7 +162,7 @@ table-free : {script : Script} (S : State) (p : ObjNo) (i : ℕ) (o : ObjNo) →
 table-free S p i o none rows =
     let slot = no-slot-names (is_some (thread_of S p)) o (slot_at (table_of S p) i) none in
     let owed = none_owed S.references.threads S.serving.servers S.serving.messages.accepted S.references.owed
-    (InProcess p i) o rows.references.duties (λ k y own. own) in
+    (InProcess p i) o rows.references.duties (λ k y later behind own. own) in
     omega arith
 
 pub clean-leaves : (shared : Bool) (script : Script) (history : List Entry) (t : ObjNo) → IsWellFormed script

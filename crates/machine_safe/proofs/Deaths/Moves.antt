@@ -16,6 +16,7 @@ use Rattle.state_rows.specs.declared.thread.Stage.{Stage}
 use Rattle.state_rows.specs.declared.thread.Stage.TheVariants.{Live, Doomed, Cleaned, Buried}
 use Rattle.state_rows.specs.declared.thread.ThreadRow.{ThreadRow}
 use Rattle.state_rows.specs.declared.thread.Waiting.TheVariants as waiting
+use Rattle.state_rows.specs.ObjectRows.{place_of}
 use Rattle.machine.specs.declared.death_move.DeathMove.{DeathMove}
 use Rattle.machine.specs.declared.death_move.DeathMove.TheVariants.{Note, Doom, Clean, Bury}
 use Rattle.machine.specs.declared.message_move.MessageMove.{MessageMove}
@@ -37,7 +38,7 @@ use Rattle.machine.specs.References.{same, stage_holds}
 use Rattle.machine.specs.Kept.{dies}
 use Rattle.machine.specs.Out.{is_returning}
 use Rattle.machine.specs.RequestMoves.{request_moved, request_told}
-use Rattle.machine.specs.Rows.{owed_of, thread_of}
+use Rattle.machine.specs.Rows.{object_of, owed_of, thread_of}
 use Rattle.machine.specs.ServerMoves.{server_told}
 use Rattle.machine.specs.WellFormed.{AreRows, IsLiveThread, is_spent}
 use Rattle.state_rows.specs.MessageChanges.{next_number}
@@ -76,7 +77,7 @@ keeps-move script S t (Lose h o) fits other =
     keeps-then S.references.threads (threads_lose h S.references.threads)
     (threads_closed (dies S o) o (threads_lose h S.references.threads)) (keeps-lose h S.references.threads)
     (keeps-closed (dies S o) o (threads_lose h S.references.threads))
-keeps-move script S t (Find u o) fits other = keeps-with_row S.references.threads u (with_found o) (λ row. refl) (λ row. refl)
+keeps-move script S t (Find u o) fits other = keeps-with_row S.references.threads u (with_found o (place_of (object_of S o))) (λ row. refl) (λ row. refl)
 keeps-move script S t (Open u o part) fits other = keeps-with_row S.references.threads u (with_opened o part) (λ row. refl) (λ row. refl)
 keeps-move script S t (Miss u o) fits other = keeps-with_row S.references.threads u with_missed (λ row. refl) (λ row. refl)
 keeps-move script S t (GoOn u part) fits other = keeps-with_row S.references.threads u (with_part part) (λ row. refl) (λ row. refl)

@@ -118,11 +118,13 @@ bit-less b threads u f row n is less k =
     elim (cases_eq u.0 k.0) as (λ _. row_bit b (get_or (with_row threads u f) k.0 None) + (if u.0 == k.0 then n else 0)
     ≡ row_bit b (get_or threads k.0 None)) [
       | inl at ↦
-          let new : row_bit b (get_or (with_row threads u f) k.0 None) ≡ b (f row).stage = ap (row_bit b) (row-here threads u f k.0 at ∙ ap (option_map f) is) in
+          let new : row_bit b (get_or (with_row threads u f) k.0 None) ≡ b (f row).stage =
+          ap (row_bit b) (row-here threads u f k.0 at ∙ ap (option_map f) is) in
           let old : row_bit b (get_or threads k.0 None) ≡ b row.stage = ap (row_bit b) (ap (λ (m : ℕ). get_or threads m None) (sym at) ∙ is) in
           let own = if_is (u.0 == k.0) n (eq-eqb u.0 k.0 at) in omega arith
       | inr apart ↦
-          let same : row_bit b (get_or (with_row threads u f) k.0 None) ≡ row_bit b (get_or threads k.0 None) = ap (row_bit b) (row-other threads u f k.0 apart) in
+          let same : row_bit b (get_or (with_row threads u f) k.0 None) ≡ row_bit b (get_or threads k.0 None) =
+          ap (row_bit b) (row-other threads u f k.0 apart) in
           let none = if_not (u.0 == k.0) n (eqb_apart u.0 k.0 apart) in omega arith
     ]
 

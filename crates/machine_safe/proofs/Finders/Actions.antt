@@ -1,7 +1,7 @@
 -- What an action does to who is out: whoever acts is out afterwards exactly on what it found, and all others as before.
-use Rattle.std.proofs.Common.{◌≡◌, inl, inr, ◌+◌, ◌<◌, List, [], ◌∷◌, length, arith, refl, sym, ap, subst, ◌∙◌, Bool, true, false, Option, Some, None}
+use Rattle.std.proofs.Common.{◌≡◌, inl, inr, ℕ, ◌+◌, ◌<◌, List, [], ◌∷◌, arith, refl, sym, ap, subst, ◌∙◌, Bool, true, false, Option, Some, None}
 use Rattle.std.specs.Prelude.{◌==◌, not, if◌then◌else◌}
-use Rattle.std.proofs.lemmas.Bool.{cases_lt, eq-eqb}
+use Rattle.std.proofs.lemmas.Bool.{and_from, eq-eqb, eqb-true}
 use Rattle.sym_base.specs.declared.number.ObjNo.{ObjNo}
 use Rattle.sym_base.specs.declared.word.Word.{Word}
 use Rattle.sym_base.specs.declared.word.Word.TheVariants as word
@@ -12,6 +12,7 @@ use Rattle.script_types.specs.Shape.{IsShaped}
 use Rattle.entry_log.specs.declared.effect.Holder.TheVariants.{Temp}
 use Rattle.entry_log.specs.declared.step.Part.{Part}
 use Rattle.entry_log.specs.declared.step.Part.TheVariants as part
+use Rattle.state_rows.specs.ObjectRows.{place_of}
 use Rattle.state_rows.specs.declared.object.ObjectRow.{ObjectRow}
 use Rattle.state_rows.specs.declared.thread.ThreadRow.{ThreadRow}
 use Rattle.machine.specs.declared.decision.Decision.{Decision}
@@ -27,12 +28,12 @@ use Rattle.machine.specs.Rows.{object_of, thread_of, with_row}
 use Rattle.machine.specs.Steps.{decision_of, decision_of_row, decision_where, return_of}
 use Rattle.machine.specs.Task.{instruction, may_act, return_or, task_of, task_of_row}
 use Rattle.machine.specs.ThreadCalls.{is_live}
-use Rattle.machine.specs.Told.{finds}
+use Rattle.machine.specs.Told.{finds, removals}
 use Rattle.machine.specs.WellFormed.{AreRows, IsAlive}
 use Rattle.move_laws.proofs.Lists.Cases.{if_cases}
-use Rattle.move_laws.proofs.Lives.Bits.{alive_not_gone, gone, not_gone_alive}
 use Rattle.move_laws.proofs.Lives.LivesMove.{zero_or}
-use Rattle.move_laws.proofs.References.Same.{if_is, if_not, same_is, same_self}
+use Rattle.move_laws.proofs.Lives.Outs.{seeks_is}
+use Rattle.move_laws.proofs.References.Same.{if_is, same_self}
 use Rattle.machine_laws.proofs.Fitting.Actions.{regular-action}
 use Rattle.machine_laws.proofs.Fitting.Living.{open_is_alive}
 use Rattle.machine_laws.proofs.Fitting.Regular.{IsFinding, find_bit, finds_by_name}
@@ -47,38 +48,36 @@ use Rattle.machine_safe.proofs.Serving.Later.{part-after}
 abbrev pub AtFinds : Script → State → Type 0
 AtFinds script S = (u : ObjNo) (row : ThreadRow) → thread_of S u ≡ Some row → is_returning row.part ≡ true → finds_by_name (instruction script row) ≡ true
 
--- the row of a thread that is out on an object
-pub record IsOutOn (S : State) (u o : ObjNo) : Type 0 where
+-- the row of a thread that is out on an object of a place
+pub record IsOutOn (S : State) (u o : ObjNo) (place : ℕ) : Type 0 where
   pub row : ThreadRow
   pub is : thread_of S u ≡ Some row
   pub returns : is_returning row.part ≡ true
   pub found : found_object row ≡ o
+  pub sought : row.sought ≡ place
 
-out-by : (S : State) (u o : ObjNo) (x : Option ThreadRow) → thread_of S u ≡ x → 0 < seeks o x → IsOutOn S u o
-out-by S u o None is some = absurd (omega arith)
-out-by S u o (Some row) is some = by (is_returning row.part) refl some
-  where
-    by : (b : Bool) → is_returning row.part ≡ b → 0 < (if b then same (found_object row) o else 0) → IsOutOn S u o
-    by true returns some = record { row = row; is = is; returns = returns; found = same_is (found_object row) o some }
-    by false returns some = absurd (omega arith)
+out-by : (S : State) (u o : ObjNo) (place : ℕ) (x : Option ThreadRow) → thread_of S u ≡ x → 0 < seeks o place x → IsOutOn S u o place
+out-by S u o place None is some = absurd (omega arith)
+out-by S u o place (Some row) is some =
+    let parts = seeks_is o place row some in record { row = row; is = is; returns = parts.0; found = parts.2; sought = parts.1 }
 
-pub out-on : (S : State) (u o : ObjNo) → 0 < seeks o (thread_of S u) → IsOutOn S u o
-out-on S u o some = out-by S u o (thread_of S u) refl some
+pub out-on : (S : State) (u o : ObjNo) (place : ℕ) → 0 < seeks o place (thread_of S u) → IsOutOn S u o place
+out-on S u o place some = out-by S u o place (thread_of S u) refl some
 
 -- A return: the thread isn't out after it and finds nothing; where the object may be opened it gets a reference to it, and else nobody does to
 -- anything.
 record Returned (S : State) (t : ObjNo) (row : ThreadRow) (d : Decision) : Type 0 where
   pub back : (x : ThreadRow) → thread_of (perform t d.moves S) t ≡ Some x → is_returning x.part ≡ false
   pub unfound : (o : ObjNo) → finds (tell t d.moves S) o ≡ 0
-  pub opens : is_open (object_of S (found_object row)) ≡ true → 0 < pluses_by (tell t d.moves S) (Temp t) (found_object row)
-  pub misses : is_open (object_of S (found_object row)) ≡ false → (x : ObjNo) → pluses (tell t d.moves S) x ≡ 0
+  pub opens : is_open row.sought (object_of S (found_object row)) ≡ true → 0 < pluses_by (tell t d.moves S) (Temp t) (found_object row)
+  pub misses : is_open row.sought (object_of S (found_object row)) ≡ false → (x : ObjNo) → pluses (tell t d.moves S) x ≡ 0
 
 opened-once : (t o : ObjNo) → 0 < (if t.0 == t.0 then same o o else 0) + 0
 opened-once t o = let own = if_is (t.0 == t.0) (same o o) (eq-eqb t.0 t.0 refl) in let one = same_self o in omega arith
 
 returns-to : (S : State) (t : ObjNo) (row : ThreadRow) (word : Word) (p : Part) → is_returning (Some p) ≡ false → Returned S t row (return_to S t row word p)
 returns-to S t row word p other =
-    if_cases (Returned S t row) (is_open (object_of S (found_object row))) _ _
+    if_cases (Returned S t row) (is_open row.sought (object_of S (found_object row))) _ _
     (λ opened. record {
       back = λ x is. ap is_returning (part-after S.references.threads t (with_opened (found_object row) p) (Some p) (λ r. refl) x is) ∙ other;
       unfound = λ o. refl;
@@ -87,7 +86,7 @@ returns-to S t row word p other =
     })
     (λ shut. missed shut (is_live row.stage))
   where
-    missed : is_open (object_of S (found_object row)) ≡ false → (live : Bool) → Returned S t row (miss t word (found_object row) live)
+    missed : is_open row.sought (object_of S (found_object row)) ≡ false → (live : Bool) → Returned S t row (miss t word (found_object row) live)
     missed shut true = record {
       back = λ x is. ap is_returning (part-after (with_row S.references.threads t with_missed) t advanced None (λ r. refl) x is);
       unfound = λ o. refl;
@@ -131,13 +130,17 @@ returning script S t row at may is returns = by (instruction script row) refl
 
 -- a find puts its thread out
 found-out : (script : Script) (S : State) (t : ObjNo) (ms : List Move) (o : ObjNo) → Doing script S t ms
-    → AreRows script S → ms ≡ Find t o ∷ [] → seeks o (thread_of (perform t ms S) t) ≡ same o o
-found-out script S t ms o does rows is = ap (λ (l : List Move). seeks o (thread_of (perform t l S) t)) is ∙ by (subst (Doing script S t) is does)
+    → AreRows script S → ms ≡ Find t o ∷ [] → (place : ℕ)
+    → seeks o place (thread_of (perform t ms S) t) ≡ (if place_of (object_of S o) == place then same o o else 0)
+found-out script S t ms o does rows is place = ap (λ (l : List Move). seeks o place (thread_of (perform t l S) t)) is ∙ by (subst (Doing script S t) is does)
   where
-    by : Doing script S t (Find t o ∷ []) → seeks o (thread_of (perform t (Find t o ∷ []) S) t) ≡ same o o
-    by does = elim does as (λ _. seeks o (thread_of (perform t (Find t o ∷ []) S) t) ≡ same o o) [
-      | inl goes ↦ seeks-found script S t t o goes.each.0 rows o
-      | inr other ↦ elim other as (λ _. seeks o (thread_of (perform t (Find t o ∷ []) S) t) ≡ same o o) [
+    Out : Type 0
+    Out = seeks o place (thread_of (perform t (Find t o ∷ []) S) t) ≡ (if place_of (object_of S o) == place then same o o else 0)
+
+    by : Doing script S t (Find t o ∷ []) → Out
+    by does = elim does as (λ _. Out) [
+      | inl goes ↦ seeks-found script S t t o goes.each.0 rows o place
+      | inr other ↦ elim other as (λ _. Out) [
         | inl pays ↦ let clash = pays.moves in absurd (cc)
         | inr none ↦ absurd (cc)
       ]
@@ -157,65 +160,99 @@ module _ (script : Script) (S : State) (t : ObjNo) (shaped : IsShaped script) (r
   finding o some = (regular-action script S t shaped rows).1.finds o some
 
   -- others are out as before
-  pub others-out : (u o : ObjNo) → (t.0 ≡ u.0 → ⊥) → seeks o (thread_of T u) ≡ seeks o (thread_of S u)
-  others-out u o apart = seeks-doing script S t d.moves does rows u o (λ at. absurd (apart at))
+  pub others-out : (u o : ObjNo) (place : ℕ) → (t.0 ≡ u.0 → ⊥) → seeks o place (thread_of T u) ≡ seeks o place (thread_of S u)
+  others-out u o place apart = seeks-doing script S t d.moves does rows u o place (λ at. absurd (apart at))
 
-  -- one that wasn't out is out on what it found
-  found-told : (o : ObjNo) → seeks o (thread_of S t) ≡ 0 → seeks o (thread_of T t) ≡ finds (tell t d.moves S) o
-  found-told o none = elim (cases_lt 0 (total (find_bit o) d.moves)) as (λ _. seeks o (thread_of T t) ≡ finds (tell t d.moves S) o) [
-    | inl some ↦
-        let moves = (finding o some).moves in
-        let out = found-out script S t d.moves o does rows moves in
-        let told = finds-tell t d.moves S o in
-        let bits = ap (total (find_bit o)) moves in omega arith
-    | inr zero ↦ let most = seeks-most script S t d.moves does rows o in let told = finds-tell t d.moves S o in omega arith
-  ]
+  -- whoever finds an object is out on it then, by its place
+  found-told : (o : ObjNo) → 0 < finds (tell t d.moves S) o → 0 < seeks o (place_of (object_of S o)) (thread_of T t)
+  found-told o some =
+      let told = finds-tell t d.moves S o in
+      let moves = (finding o (omega arith)).moves in
+      let out = found-out script S t d.moves o does rows moves (place_of (object_of S o)) in
+      let one = if_is (place_of (object_of S o) == place_of (object_of S o)) (same o o)
+      (eq-eqb (place_of (object_of S o)) (place_of (object_of S o)) refl) in
+      let self = same_self o in omega arith
+
+  -- and one that wasn't out is out on nothing else
+  sought-told : (o : ObjNo) (place : ℕ) → seeks o place (thread_of S t) ≡ 0 → 0 < seeks o place (thread_of T t)
+      → (0 < finds (tell t d.moves S) o) × (place ≡ place_of (object_of S o))
+  sought-told o place none some =
+      let most = seeks-most script S t d.moves does rows o place in
+      let told = finds-tell t d.moves S o in
+      let moves = (finding o (omega arith)).moves in
+      let out = found-out script S t d.moves o does rows moves place in
+      (omega arith, by (place_of (object_of S o) == place) refl (omega arith))
+    where
+      by : (b : Bool) → (place_of (object_of S o) == place) ≡ b → 0 < (if b then same o o else 0) → place ≡ place_of (object_of S o)
+      by true is more = sym (eqb-true (place_of (object_of S o)) place is)
+      by false is more = absurd (omega arith)
+
+  -- what finds an object does nothing else
+  pub unswept-find : (o x : ObjNo) → 0 < finds (tell t d.moves S) o → removals (tell t d.moves S) x ≡ 0
+  unswept-find o x some =
+      let told = finds-tell t d.moves S o in
+      ap (λ (l : List Move). removals (tell t l S) x) (finding o (omega arith)).moves
+
+  pub unmoved-find : (o x : ObjNo) → 0 < finds (tell t d.moves S) o → object_of T x ≡ object_of S x
+  unmoved-find o x some =
+      let told = finds-tell t d.moves S o in
+      ap (λ (l : List Move). object_of (perform t l S) x) (finding o (omega arith)).moves
 
   -- nobody finds what is alive without a reference, nor gets one to it, unless the thread is out on it
-  pub dormant-act : (o : ObjNo) → o.0 < length S.references.objects → gone S.references.objects o ≡ 0 → count_of S o ≡ 0
-      → seeks o (thread_of S t) ≡ 0 → (pluses (tell t d.moves S) o ≡ 0) × (finds (tell t d.moves S) o ≡ 0)
-  dormant-act o inside alive none away =
-      let unfound = zero_or (total (find_bit o) d.moves)
-      (λ some. let counted = (finding o some).counted (not_gone_alive S.references.objects o inside alive) in
-      omega arith) in
-      (plus-doing script S t d.moves does o inside none unfound (λ _. away), finds-tell t d.moves S o ∙ unfound)
+  pub dormant-act : (o : ObjNo) → IsAlive (object_of S o) → count_of S o ≡ 0
+      → seeks o (place_of (object_of S o)) (thread_of S t) ≡ 0 → (pluses (tell t d.moves S) o ≡ 0) × (finds (tell t d.moves S) o ≡ 0)
+  dormant-act o alive none away =
+      let unfound = zero_or (total (find_bit o) d.moves) (λ some. let counted = (finding o some).counted alive in omega arith) in
+      (plus-doing script S t d.moves does o alive none unfound (λ _. away), finds-tell t d.moves S o ∙ unfound)
 
   module _ (at : AtFinds script S) (may : may_act script S t ≡ true) where
     -- after its action a thread is out exactly on what it found
-    pub own-out : (o : ObjNo) → seeks o (thread_of T t) ≡ finds (tell t d.moves S) o
-    own-out o = by (thread_of S t) refl
-      where
-        back : (row : ThreadRow) (b : Bool) → thread_of S t ≡ Some row → is_returning row.part ≡ b → seeks o (thread_of T t) ≡ finds (tell t d.moves S) o
-        back row true is returns = let r = returning script S t row at may is returns in unseen (thread_of T t) o r.back ∙ sym (r.unfound o)
-        back row false is returns = found-told o (ap (seeks o) is ∙ if_not (is_returning row.part) (same (found_object row) o) returns)
+    abbrev IsSought : ObjNo → ℕ → Type 0
+    IsSought o place = (0 < finds (tell t d.moves S) o) × (place ≡ place_of (object_of S o))
 
-        by : (x : Option ThreadRow) → thread_of S t ≡ x → seeks o (thread_of T t) ≡ finds (tell t d.moves S) o
-        by None is = found-told o (ap (seeks o) is)
+    pub own-found : (o : ObjNo) → 0 < finds (tell t d.moves S) o → 0 < seeks o (place_of (object_of S o)) (thread_of T t)
+    own-found o some = found-told o some
+
+    pub own-sought : (o : ObjNo) (place : ℕ) → 0 < seeks o place (thread_of T t) → IsSought o place
+    own-sought o place some = by (thread_of S t) refl
+      where
+        back : (row : ThreadRow) (b : Bool) → thread_of S t ≡ Some row → is_returning row.part ≡ b → IsSought o place
+        back row true is returns =
+            let r = returning script S t row at may is returns in
+            let none = unseen (thread_of T t) o place r.back in absurd (omega arith)
+        back row false is returns =
+            sought-told o place (unseen (thread_of S t) o place
+            (λ r e. let same_row : row ≡ r = cc in ap (λ (x : ThreadRow). is_returning x.part) (sym same_row) ∙ returns)) some
+
+        by : (x : Option ThreadRow) → thread_of S t ≡ x → IsSought o place
+        by None is = sought-told o place (ap (seeks o place) is) some
         by (Some row) is = back row (is_returning row.part) is refl
 
-    -- one that is out comes back: it opens an object that is alive
-    pub opens-act : (o : ObjNo) → o.0 < length S.references.objects → gone S.references.objects o ≡ 0
-        → 0 < seeks o (thread_of S t) → 0 < pluses_by (tell t d.moves S) (Temp t) o
-    opens-act o inside alive some =
-        let out = out-on S t o some in
+    -- one that is out comes back: it opens an object that is alive, at the place that it found
+    pub opens-act : (o : ObjNo) → IsAlive (object_of S o)
+        → 0 < seeks o (place_of (object_of S o)) (thread_of S t) → 0 < pluses_by (tell t d.moves S) (Temp t) o
+    opens-act o alive some =
+        let out = out-on S t o (place_of (object_of S o)) some in
         let r = returning script S t out.row at may out.is out.returns in
         subst (λ (x : ObjNo). 0 < pluses_by (tell t d.moves S) (Temp t) x) out.found
-        (r.opens (subst (λ (x : ObjNo). is_open (object_of S x) ≡ true) (sym out.found)
-        (alive-open (object_of S o) (not_gone_alive S.references.objects o inside alive))))
+        (r.opens (ap (λ (x : ObjNo). is_open out.row.sought (object_of S x)) out.found
+        ∙ alive-open out.row.sought (object_of S o) alive (sym out.sought)))
       where
-        alive-open : (x : Option ObjectRow) → IsAlive x → is_open x ≡ true
-        alive-open None alive = absurd alive
-        alive-open (Some row) alive = ap not alive
+        alive-open : (place : ℕ) (x : Option ObjectRow) → IsAlive x → place_of x ≡ place → is_open place x ≡ true
+        alive-open place None alive at = absurd alive
+        alive-open place (Some row) alive at = and_from (not row.dead) (row.place == place) (ap not alive) (eq-eqb row.place place at)
 
-    -- and gets nothing, if the object is gone
-    pub misses-act : (o : ObjNo) → gone S.references.objects o ≡ 1 → 0 < seeks o (thread_of S t) → (x : ObjNo) → pluses (tell t d.moves S) x ≡ 0
-    misses-act o dead some =
-        let out = out-on S t o some in
+    -- and gets nothing, if no object of its place is alive there
+    pub misses-act : (o : ObjNo) (place : ℕ) → (IsAlive (object_of S o) → place_of (object_of S o) ≡ place → ⊥)
+        → 0 < seeks o place (thread_of S t) → (x : ObjNo) → pluses (tell t d.moves S) x ≡ 0
+    misses-act o place over some =
+        let out = out-on S t o place some in
         (returning script S t out.row at may out.is out.returns).misses
-        (by (found_object out.row) (is_open (object_of S (found_object out.row))) refl
-        (ap (λ (x : ObjNo). object_of S x) out.found))
+        (by (found_object out.row) out.row.sought (is_open out.row.sought (object_of S (found_object out.row))) refl
+        (ap (λ (x : ObjNo). object_of S x) out.found) out.sought)
       where
-        by : (y : ObjNo) (b : Bool) → is_open (object_of S y) ≡ b → object_of S y ≡ object_of S o → b ≡ false
-        by y true e same_row = let alive = alive_not_gone S.references.objects o
-            (subst IsAlive same_row (open_is_alive (object_of S y) e)) in absurd (omega arith)
-        by y false e same_row = refl
+        by : (y : ObjNo) (sought : ℕ) (b : Bool) → is_open sought (object_of S y) ≡ b → object_of S y ≡ object_of S o → sought ≡ place → b ≡ false
+        by y sought true e same_row at =
+            let opened = open_is_alive sought (object_of S y) e in
+            absurd (over (subst IsAlive same_row opened.0) (sym (ap place_of same_row) ∙ opened.1 ∙ at))
+        by y sought false e same_row at = refl

@@ -1,5 +1,7 @@
 -- An object that is alive without a reference: nobody finds it, and nobody gets a reference to it, but whoever is out on it.
-use Rattle.std.proofs.Common.{◌≡◌, inl, inr, ◌<◌, List, [], ◌∷◌, length, arith, refl, sym, ap, subst, ◌∙◌, Bool, true, false, Some, None, ℕ, ◌+◌}
+use Rattle.std.proofs.Common.{◌≡◌, inl, inr, ◌<◌, List, [], ◌∷◌, get_or, arith, refl, sym, ap, subst, ◌∙◌, Bool, true, false, Some, None, ℕ, ◌+◌}
+use Rattle.std.specs.Prelude.{◌==◌, ◌&&◌, is_some}
+use Rattle.std.proofs.lemmas.Bool.{and_from, eq-eqb}
 use Rattle.sym_base.specs.declared.number.ObjNo.{ObjNo}
 use Rattle.script_types.specs.declared.script.Script.{Script}
 use Rattle.entry_log.specs.declared.effect.Effect.{Effect}
@@ -11,6 +13,7 @@ use Rattle.state_rows.specs.declared.locks.Locked.TheVariants.{Taken}
 use Rattle.state_rows.specs.declared.locks.Owner.{Owner}
 use Rattle.state_rows.specs.declared.locks.Unlocked.TheVariants.{Freed, Passed}
 use Rattle.state_rows.specs.Locks.{owner_at, best_waiter}
+use Rattle.state_rows.specs.ObjectRows.{place_of}
 use Rattle.machine.specs.declared.death_move.DeathMove.{DeathMove}
 use Rattle.machine.specs.declared.death_move.DeathMove.TheVariants as death
 use Rattle.machine.specs.declared.lock_move.LockMove.{LockMove}
@@ -37,13 +40,15 @@ use Rattle.machine.specs.NanoMoves.{nano_told}
 use Rattle.machine.specs.Out.{found_object, is_returning, seeks}
 use Rattle.machine.specs.References.{count_of, mutex_names, pluses, same, total}
 use Rattle.machine.specs.RequestMoves.{request_told}
-use Rattle.machine.specs.Rows.{thread_of}
+use Rattle.machine.specs.Rows.{object_of, thread_of}
 use Rattle.machine.specs.Choice.{priority_of}
 use Rattle.machine.specs.ServerMoves.{server_told}
-use Rattle.machine.specs.Told.{finds}
-use Rattle.machine.specs.WellFormed.{AreRows}
+use Rattle.machine.specs.Told.{deaths, finds, removals}
+use Rattle.machine.specs.WellFormed.{AreRows, IsAlive}
 use Rattle.move_laws.proofs.Lists.Totals.{total_within}
+use Rattle.move_laws.proofs.Lives.Bits.{alive_there, alive_undead}
 use Rattle.move_laws.proofs.Lives.LivesMove.{zero_or}
+use Rattle.move_laws.proofs.Lives.NewObjects.{next_number_is}
 use Rattle.move_laws.proofs.MoveLaws.LockMoves.{passed_by}
 use Rattle.move_laws.proofs.References.Effects.{pluses-append}
 use Rattle.move_laws.proofs.References.Same.{if_is, same_is, same_other}
@@ -117,9 +122,15 @@ pub plus-pay : (S : State) (what : Owed) (o : ObjNo) → pluses (told (Pay what)
 plus-pay S (Close h x) o = plus-closed (dies S x) h x o
 plus-pay S (Sweep x) o = refl
 
--- No move that fits adds a reference to an object that was made and has none, but one by which somebody comes back to it.
+-- the number of an object that is there isn't the next one
+not_next : (S : State) (o : ObjNo) → is_some (object_of S o) ≡ true → o.0 ≡ (next_object S).0 → ⊥
+not_next S o there at =
+    let none = (next_number_is S.mode.reuse S.references.objects).1 in
+    let nobody : is_some (object_of S o) ≡ false = ap (λ (n : ℕ). is_some (get_or S.references.objects n None)) at ∙ ap is_some none in cc
+
+-- No move that fits adds a reference to an object that is there and has none, but one by which somebody comes back to it.
 module _ (script : Script) (S : State) (t : ObjNo) (rows : AreRows script S) (o : ObjNo)
-    (inside : o.0 < length S.references.objects) (none : count_of S o ≡ 0) where
+    (there : is_some (object_of S o) ≡ true) (none : count_of S o ≡ 0) where
   plus-locks : (m : LockMove) → FitsLocks t m S → pluses (lock_told m) o ≡ 0
   plus-locks (lock.Lock x v Taken) fits = let other = counted-other S x o fits.counted none in omega arith
   plus-locks (lock.Unlock x v Freed) fits = refl
@@ -145,17 +156,23 @@ module _ (script : Script) (S : State) (t : ObjNo) (rows : AreRows script S) (o 
   plus-messages (message.Finish m code) fits = refl
   plus-messages _ fits = refl
 
-  pub plus-none : (m : Move) → FitsMove script t m S → (0 < turning_bit m → seeks o (thread_of S t) ≡ 0) → pluses (told m S) o ≡ 0
-  plus-none (Make kind name h) fits away = let other = same_other (next_object S) o (λ at. omega arith) in omega arith
+  pub plus-none : (m : Move) → FitsMove script t m S → (0 < turning_bit m → seeks o (place_of (object_of S o)) (thread_of S t) ≡ 0)
+      → pluses (told m S) o ≡ 0
+  plus-none (Make kind name h) fits away = let other = same_other (next_object S) o (λ at. not_next S o there (sym at)) in omega arith
   plus-none (Gain h x) fits away = let other = counted-other S x o fits.1 none in omega arith
   plus-none (Lose h x) fits away = plus-closed (dies S x) h x o
-  plus-none (Open v x part) fits away =
+  plus-none (Open v x part) fits away = zero_or (same x o + 0) (λ some.
+      let here : x ≡ o = same_is x o (omega arith) in
       let back = fits.0.back in
-      let out : seeks o (thread_of S t) ≡ same x o =
-      ap (λ (y : ObjNo). seeks o (thread_of S y)) (sym fits.1)
-      ∙ (ap (seeks o) back.is ∙ (if_is (is_returning back.row.part) (same (found_object back.row) o) back.returns
-      ∙ ap (λ (y : ObjNo). same y o) back.found)) in
-      let gone = away (omega arith) in omega arith
+      let place = place_of (object_of S o) in
+      let sought : back.row.sought ≡ place = sym fits.0.same ∙ ap (λ (y : ObjNo). place_of (object_of S y)) here in
+      let out : seeks o place (thread_of S t) ≡ same x o =
+      ap (λ (y : ObjNo). seeks o place (thread_of S y)) (sym fits.1)
+      ∙ ap (seeks o place) back.is
+      ∙ if_is (is_returning back.row.part && back.row.sought == place) (same (found_object back.row) o)
+      (and_from (is_returning back.row.part) (back.row.sought == place) back.returns (eq-eqb back.row.sought place sought))
+      ∙ ap (λ (y : ObjNo). same y o) back.found in
+      let gone = away (omega arith) in omega arith)
   plus-none (Nano m) fits away = plus-nano m o
   plus-none (Requests m) fits away = plus-requests m o
   plus-none (Locks m) fits away = plus-locks m fits
@@ -167,25 +184,31 @@ module _ (script : Script) (S : State) (t : ObjNo) (rows : AreRows script S) (o 
 
 -- nor do several, nor a payment, if the object isn't found among them
 plus-going : (script : Script) (S : State) (t : ObjNo) (ms : List Move) → IsGoing script S t ms → (o : ObjNo)
-    → o.0 < length S.references.objects → count_of S o ≡ 0 → total (find_bit o) ms ≡ 0
-    → (0 < total turning_bit ms → seeks o (thread_of S t) ≡ 0) → pluses (tell t ms S) o ≡ 0
-plus-going script S t [] h o inside none unfound away = refl
-plus-going script S t (m ∷ ms) h o inside none unfound away =
+    → IsAlive (object_of S o) → count_of S o ≡ 0 → total (find_bit o) ms ≡ 0
+    → (0 < total turning_bit ms → seeks o (place_of (object_of S o)) (thread_of S t) ≡ 0) → pluses (tell t ms S) o ≡ 0
+plus-going script S t [] h o alive none unfound away = refl
+plus-going script S t (m ∷ ms) h o alive none unfound away =
     let few = h.few in
-    let first = plus-none script S t h.sane.rows o inside none m h.each.0 (λ some. away (omega arith)) in
+    let there = alive_there (object_of S o) alive in
+    let first = plus-none script S t h.sane.rows o there none m h.each.0 (λ some. away (omega arith)) in
     let lives = (sound-move script S t m h.each.0 (omega arith) h.sane).lives in
     let counts = lives.counts o in
-    let made = lives.made in
-    let out = seeks-le script S t m h.each.0 h.sane.rows o in
-    let rest = plus-going script (moved t m S) t ms (going-then script S t m ms h) o (omega arith) (omega arith)
-    (omega arith) (λ some. let gone = away (omega arith) in omega arith) in
+    let undead = zero_or (deaths (told m S) o) (λ some. let last = lives.last o some in omega arith) in
+    let unswept = zero_or (removals (told m S) o)
+    (λ some. let swept = lives.removes o some in let undead_now = alive_undead (object_of S o) alive in omega arith) in
+    let place = (lives.there o there unswept).1 in
+    let out = seeks-le script S t m h.each.0 h.sane.rows o (place_of (object_of S o)) in
+    let rest = plus-going script (moved t m S) t ms (going-then script S t m ms h) o (lives.stays o alive undead) (omega arith)
+    (omega arith) (λ some. let gone = away (omega arith) in
+    ap (λ (n : ℕ). seeks o n (thread_of (moved t m S) t)) place
+    ∙ (let zero : seeks o (place_of (object_of S o)) (thread_of (moved t m S) t) ≡ 0 = omega arith in zero)) in
     let both = pluses-append (told m S) (tell t ms (moved t m S)) o in omega arith
 
 pub plus-doing : (script : Script) (S : State) (t : ObjNo) (ms : List Move) → Doing script S t ms → (o : ObjNo)
-    → o.0 < length S.references.objects → count_of S o ≡ 0 → total (find_bit o) ms ≡ 0
-    → (0 < total turning_bit ms → seeks o (thread_of S t) ≡ 0) → pluses (tell t ms S) o ≡ 0
-plus-doing script S t ms does o inside none unfound away = elim does as (λ _. pluses (tell t ms S) o ≡ 0) [
-  | inl goes ↦ plus-going script S t ms goes o inside none unfound away
+    → IsAlive (object_of S o) → count_of S o ≡ 0 → total (find_bit o) ms ≡ 0
+    → (0 < total turning_bit ms → seeks o (place_of (object_of S o)) (thread_of S t) ≡ 0) → pluses (tell t ms S) o ≡ 0
+plus-doing script S t ms does o alive none unfound away = elim does as (λ _. pluses (tell t ms S) o ≡ 0) [
+  | inl goes ↦ plus-going script S t ms goes o alive none unfound away
   | inr other ↦ elim other as (λ _. pluses (tell t ms S) o ≡ 0) [
     | inl pays ↦
         ap (λ (l : List Move). pluses (tell t l S) o) pays.moves

@@ -1,7 +1,7 @@
 -- What an entry does to who is out, whoever acts.
-use Rattle.std.proofs.Common.{◌≡◌, inl, inr, ℕ, ◌<◌, List, [], length, get_or, arith, refl, sym, ap, subst, ◌∙◌, Bool, true, false, Option, Some, None}
-use Rattle.std.specs.Prelude.{is_some, option_map}
-use Rattle.std.proofs.lemmas.Bool.{cases_eq, eq-eqb, eqb-true}
+use Rattle.std.proofs.Common.{◌≡◌, inl, inr, ℕ, ◌<◌, List, [], get_or, arith, refl, sym, ap, subst, ◌∙◌, Bool, true, false, Option, Some, None}
+use Rattle.std.specs.Prelude.{◌==◌, ◌&&◌, is_some, option_map}
+use Rattle.std.proofs.lemmas.Bool.{and_from, cases_eq, eq-eqb, eqb-true}
 use Rattle.sym_base.specs.declared.number.ObjNo.{ObjNo}
 use Rattle.script_types.specs.declared.script.Script.{Script}
 use Rattle.script_types.specs.Shape.{IsShaped}
@@ -11,6 +11,7 @@ use Rattle.entry_log.specs.declared.entry.Actor.{Actor}
 use Rattle.entry_log.specs.declared.entry.Actor.TheVariants.{Thread, Irq, Idfc, Tick, Idle}
 use Rattle.entry_log.specs.declared.step.Part.{Part}
 use Rattle.state_rows.specs.Deferred.{next_immediate}
+use Rattle.state_rows.specs.ObjectRows.{place_of}
 use Rattle.state_rows.specs.declared.thread.ThreadRow.{ThreadRow}
 use Rattle.machine.specs.declared.moves.Move.{Move}
 use Rattle.machine.specs.declared.plan.Body.TheVariants.{Interrupt}
@@ -24,13 +25,12 @@ use Rattle.machine.specs.Interrupts.{done_by, immediate, immediate_plan, interru
 use Rattle.machine.specs.Moves.{perform, tell, with_found}
 use Rattle.machine.specs.Out.{found_object, is_returning, seeks}
 use Rattle.machine.specs.References.{count_of, pluses, same, total}
-use Rattle.machine.specs.Rows.{thread_of}
+use Rattle.machine.specs.Rows.{object_of, thread_of}
 use Rattle.machine.specs.Steps.{decision_of}
 use Rattle.machine.specs.Task.{instruction}
-use Rattle.machine.specs.Told.{finds}
+use Rattle.machine.specs.Told.{finds, removals}
 use Rattle.machine.specs.Transition.{act}
-use Rattle.machine.specs.WellFormed.{AreRows}
-use Rattle.move_laws.proofs.Lives.Bits.{gone}
+use Rattle.machine.specs.WellFormed.{AreRows, IsAlive}
 use Rattle.move_laws.proofs.Holders.ThreadRows.{row-here}
 use Rattle.move_laws.proofs.References.Same.{if_is, same_object, same_self}
 use Rattle.machine_laws.proofs.AtBoot.Born.{born_row, each_born}
@@ -38,7 +38,7 @@ use Rattle.machine_laws.proofs.Fitting.Bodies.{OwesNothing, goes-light}
 use Rattle.machine_laws.proofs.Fitting.Interrupts.{light-immediate, light-interrupt}
 use Rattle.machine_laws.proofs.Fitting.Regular.{finds_by_name, going_bit, plain}
 use Rattle.machine_safe.specs.CountAfter.{is_by, pluses_by}
-use Rattle.machine_safe.proofs.Finders.Actions.{AtFinds, dormant-act, finding, misses-act, opens-act, others-out, own-out}
+use Rattle.machine_safe.proofs.Finders.Actions.{AtFinds, dormant-act, finding, misses-act, opens-act, others-out, own-found, own-sought, unmoved-find, unswept-find}
 use Rattle.machine_safe.proofs.Finders.Dormant.{finds-tell, plus-doing}
 use Rattle.machine_safe.proofs.Finders.Moves.{seeks-doing, turning-none}
 use Rattle.machine_laws.proofs.Sharing.Seekers.{unseen}
@@ -48,29 +48,37 @@ use Rattle.machine_safe.proofs.Serving.Others.{carries-each, midway-pay, same-in
 -- what an action tells of who is out, and does to it
 pub record Turns (script : Script) (S T : State) (actor : Actor) (effects : List Effect) : Type 0 where
   -- who doesn't act is out as before, and who acts exactly on what it found
-  pub others : (u o : ObjNo) → is_by u actor ≡ false → seeks o (thread_of T u) ≡ seeks o (thread_of S u)
-  pub own : (u o : ObjNo) → is_by u actor ≡ true → seeks o (thread_of T u) ≡ finds effects o
-  -- who is out and acts opens an object that is alive, and gets nothing where it is gone
-  pub opens : (u o : ObjNo) → is_by u actor ≡ true → o.0 < length S.references.objects → gone S.references.objects o ≡ 0
-      → 0 < seeks o (thread_of S u) → 0 < pluses_by effects (Temp u) o
-  pub misses : (u o : ObjNo) → is_by u actor ≡ true → gone S.references.objects o ≡ 1 → 0 < seeks o (thread_of S u) → (x : ObjNo) → pluses effects x ≡ 0
+  pub others : (u o : ObjNo) (place : ℕ) → is_by u actor ≡ false → seeks o place (thread_of T u) ≡ seeks o place (thread_of S u)
+  pub found : (u o : ObjNo) → is_by u actor ≡ true → 0 < finds effects o → 0 < seeks o (place_of (object_of S o)) (thread_of T u)
+  pub own : (u o : ObjNo) (place : ℕ) → is_by u actor ≡ true → 0 < seeks o place (thread_of T u)
+      → (0 < finds effects o) × (place ≡ place_of (object_of S o))
+  -- an entry that finds sweeps nothing, and leaves all objects as they are
+  pub quiet : (o x : ObjNo) → 0 < finds effects o → removals effects x ≡ 0
+  pub unmoved : (o x : ObjNo) → 0 < finds effects o → object_of T x ≡ object_of S x
+  -- who is out and acts opens an object that is alive at its place, and gets nothing where none is
+  pub opens : (u o : ObjNo) → is_by u actor ≡ true → IsAlive (object_of S o)
+      → 0 < seeks o (place_of (object_of S o)) (thread_of S u) → 0 < pluses_by effects (Temp u) o
+  pub misses : (u o : ObjNo) (place : ℕ) → is_by u actor ≡ true → (IsAlive (object_of S o) → place_of (object_of S o) ≡ place → ⊥)
+      → 0 < seeks o place (thread_of S u) → (x : ObjNo) → pluses effects x ≡ 0
   -- nobody else finds an object that is alive without a reference, or gets one to it
-  pub dormant : (o : ObjNo) → o.0 < length S.references.objects → gone S.references.objects o ≡ 0 → count_of S o ≡ 0
-      → ((u : ObjNo) → is_by u actor ≡ true → seeks o (thread_of S u) ≡ 0)
+  pub dormant : (o : ObjNo) → IsAlive (object_of S o) → count_of S o ≡ 0
+      → ((u : ObjNo) → is_by u actor ≡ true → seeks o (place_of (object_of S o)) (thread_of S u) ≡ 0)
       → (pluses effects o ≡ 0) × (finds effects o ≡ 0)
 
 -- nobody acts who is a thread
 turns-quiet : (script : Script) (S T : State) (actor : Actor) (effects : List Effect)
-    → ((u : ObjNo) → is_by u actor ≡ false) → ((u o : ObjNo) → seeks o (thread_of T u) ≡ seeks o (thread_of S u))
-    → ((o : ObjNo) → o.0 < length S.references.objects → count_of S o ≡ 0 → (pluses effects o ≡ 0)
-    × (finds effects o ≡ 0))
+    → ((u : ObjNo) → is_by u actor ≡ false) → ((u o : ObjNo) (place : ℕ) → seeks o place (thread_of T u) ≡ seeks o place (thread_of S u))
+    → ((o : ObjNo) → IsAlive (object_of S o) → count_of S o ≡ 0 → pluses effects o ≡ 0) → ((o : ObjNo) → finds effects o ≡ 0)
     → Turns script S T actor effects
-turns-quiet script S T actor effects nobody same dormant = record {
-  others = λ u o _. same u o;
-  own = λ u o by. let not_by = nobody u in absurd (cc);
-  opens = λ u o by inside alive some. let not_by = nobody u in absurd (cc);
-  misses = λ u o by dead some x. let not_by = nobody u in absurd (cc);
-  dormant = λ o inside alive none away. dormant o inside none;
+turns-quiet script S T actor effects nobody same dormant unfound = record {
+  others = λ u o place _. same u o place;
+  found = λ u o by some. let not_by = nobody u in absurd (cc);
+  own = λ u o place by some. let not_by = nobody u in absurd (cc);
+  opens = λ u o by alive some. let not_by = nobody u in absurd (cc);
+  misses = λ u o place by over some x. let not_by = nobody u in absurd (cc);
+  quiet = λ o x some. let none = unfound o in absurd (omega arith);
+  unmoved = λ o x some. let none = unfound o in absurd (omega arith);
+  dormant = λ o alive none away. (dormant o alive none, unfound o);
 }
 
 turns-light : (script : Script) (S : State) (actor : Actor) (plan : Plan) → AreRows script S
@@ -81,12 +89,10 @@ turns-light script S actor plan rows nobody light =
     let ms = (decision_by script supervisor S plan).moves in
     let does = doing-by script S plan rows (goes-light script S supervisor ms rows light) in
     let still = turning-none ms (light.calm.goes refl) in
-    turns-quiet script S (perform supervisor ms S) actor (tell supervisor ms S) nobody (λ u o. seeks-doing script S supervisor ms does rows u o (λ _. still))
-    (λ o inside none. (
-      plus-doing script S supervisor ms does o inside none (light.calm.finds o)
-          (λ some. absurd (omega arith)),
-      finds-tell supervisor ms S o ∙ light.calm.finds o,
-    ))
+    turns-quiet script S (perform supervisor ms S) actor (tell supervisor ms S) nobody
+    (λ u o place. seeks-doing script S supervisor ms does rows u o place (λ _. still))
+    (λ o alive none. plus-doing script S supervisor ms does o alive none (light.calm.finds o) (λ some. absurd (omega arith)))
+    (λ o. finds-tell supervisor ms S o ∙ light.calm.finds o)
 
 turns-interrupt : (script : Script) (S : State) (k : ℕ) → IsShaped script → AreRows script S
     → Turns script S (interrupt script S k).state (Irq k) (interrupt script S k).outcome.effects
@@ -112,15 +118,21 @@ turns-act script S t shaped rows at able =
     let effects = tell t (decision_of script S t).moves S in
     let T = perform t (decision_of script S t).moves S in
     record {
-      others = λ u o other. others-out script S t shaped rows u o (λ e. let by : is_by u (Thread t) ≡ true = eq-eqb t.0 u.0 e in absurd (cc));
-      own = λ u o by. subst (λ (x : ObjNo). seeks o (thread_of T x) ≡ finds effects o) (by-same u t by) (own-out script S t shaped rows at able o);
+      others = λ u o place other. others-out script S t shaped rows u o place
+          (λ e. let by : is_by u (Thread t) ≡ true = eq-eqb t.0 u.0 e in absurd (cc));
+      found = λ u o by some. subst (λ (x : ObjNo). 0 < seeks o (place_of (object_of S o)) (thread_of T x)) (by-same u t by)
+          (own-found script S t shaped rows at able o some);
+      own = λ u o place by. subst (λ (x : ObjNo). 0 < seeks o place (thread_of T x) → (0 < finds effects o) × (place ≡ place_of (object_of S o)))
+          (by-same u t by) (own-sought script S t shaped rows at able o place);
+      quiet = λ o x some. unswept-find script S t shaped rows o x some;
+      unmoved = λ o x some. unmoved-find script S t shaped rows o x some;
       opens =
-          λ u o by inside alive. subst (λ (x : ObjNo). 0 < seeks o (thread_of S x) → 0 < pluses_by effects (Temp x) o)
-          (by-same u t by) (opens-act script S t shaped rows at able o inside alive);
+          λ u o by alive. subst (λ (x : ObjNo). 0 < seeks o (place_of (object_of S o)) (thread_of S x) → 0 < pluses_by effects (Temp x) o)
+          (by-same u t by) (opens-act script S t shaped rows at able o alive);
       misses =
-          λ u o by dead. subst (λ (y : ObjNo). 0 < seeks o (thread_of S y) → (x : ObjNo) → pluses effects x ≡ 0)
-          (by-same u t by) (misses-act script S t shaped rows at able o dead);
-      dormant = λ o inside alive none away. dormant-act script S t shaped rows o inside alive none (away t (eq-eqb t.0 t.0 refl));
+          λ u o place by over. subst (λ (y : ObjNo). 0 < seeks o place (thread_of S y) → (x : ObjNo) → pluses effects x ≡ 0)
+          (by-same u t by) (misses-act script S t shaped rows at able o place over);
+      dormant = λ o alive none away. dormant-act script S t shaped rows o alive none (away t (eq-eqb t.0 t.0 refl));
     }
 
 pub turns-next : (script : Script) (S : State) (actor : Actor) → IsShaped script → AreRows script S → AtFinds script S
@@ -128,8 +140,8 @@ pub turns-next : (script : Script) (S : State) (actor : Actor) → IsShaped scri
 turns-next script S (Thread t) shaped rows at able = turns-act script S t shaped rows at able
 turns-next script S (Irq k) shaped rows at able = turns-interrupt script S k shaped rows
 turns-next script S Idfc shaped rows at able = turns-immediate script S shaped rows
-turns-next script S Tick shaped rows at able = turns-quiet script S S Tick [] (λ u. refl) (λ u o. refl) (λ o inside none. (refl, refl))
-turns-next script S Idle shaped rows at able = turns-quiet script S S Idle [] (λ u. refl) (λ u o. refl) (λ o inside none. (refl, refl))
+turns-next script S Tick shaped rows at able = turns-quiet script S S Tick [] (λ u. refl) (λ u o place. refl) (λ o alive none. refl) (λ o. refl)
+turns-next script S Idle shaped rows at able = turns-quiet script S S Idle [] (λ u. refl) (λ u o place. refl) (λ o alive none. refl) (λ o. refl)
 
 -- a return is a later step
 returns-later : (p : Option Part) → is_returning p ≡ true → is_some p ≡ true
@@ -152,6 +164,7 @@ midway-doing script S t ms does u row stays later is = elim does as (λ _. WasMi
           place = refl;
           part = refl;
           found = refl;
+          sought = refl;
           uses = refl;
           live = λ e. e;
         }
@@ -190,16 +203,21 @@ at-own : (script : Script) (S : State) (t : ObjNo) → IsShaped script → AreRo
     → finds_by_name (instruction script row) ≡ true
 at-own script S t shaped rows at able row is returns =
     let o = found_object row in
+    let place = place_of (object_of S o) in
     let ms = (decision_of script S t).moves in
-    let out : seeks o (thread_of (perform t ms S) t) ≡ same o o = ap (seeks o) is ∙ if_is (is_returning row.part) (same o o) returns in
+    let out : seeks o row.sought (thread_of (perform t ms S) t) ≡ same o o =
+    ap (seeks o row.sought) is
+    ∙ if_is (is_returning row.part && row.sought == row.sought) (same o o)
+    (and_from (is_returning row.part) (row.sought == row.sought) returns (eq-eqb row.sought row.sought refl)) in
     let one = same_self o in
-    let told = own-out script S t shaped rows at able o in
+    let told = own-sought script S t shaped rows at able o row.sought (omega arith) in
+    let some = told.0 in
     let bits = finds-tell t ms S o in
     let f = finding script S t shaped rows o (omega arith) in
-    let there : thread_of (perform t ms S) t ≡ Some (with_found o f.row) =
+    let there : thread_of (perform t ms S) t ≡ Some (with_found o place f.row) =
     ap (λ (l : List Move). thread_of (perform t l S) t) f.moves
-    ∙ (row-here S.references.threads t (with_found o) t.0 refl ∙ ap (option_map (with_found o)) f.is) in
-    let same_row : with_found o f.row ≡ row = cc in
+    ∙ (row-here S.references.threads t (with_found o place) t.0 refl ∙ ap (option_map (with_found o place)) f.is) in
+    let same_row : with_found o place f.row ≡ row = cc in
     ap (λ (r : ThreadRow). finds_by_name (instruction script r)) (sym same_row) ∙ f.at
 
 at-act : (script : Script) (S : State) (t : ObjNo) → IsShaped script → AreRows script S → AtFinds script S
@@ -229,5 +247,5 @@ born-back shared script u row shaped is = ap is_returning (born_row script _ (bo
 pub at-boot : (shared : Bool) (script : Script) → IsShaped script → AtFinds script (boot_in shared script)
 at-boot shared script shaped u row is returns = let back = born-back shared script u row shaped is in absurd (cc)
 
-pub out-boot : (shared : Bool) (script : Script) (u o : ObjNo) → IsShaped script → seeks o (thread_of (boot_in shared script) u) ≡ 0
-out-boot shared script u o shaped = unseen (thread_of (boot_in shared script) u) o (λ row is. born-back shared script u row shaped is)
+pub out-boot : (shared : Bool) (script : Script) (u o : ObjNo) (place : ℕ) → IsShaped script → seeks o place (thread_of (boot_in shared script) u) ≡ 0
+out-boot shared script u o place shaped = unseen (thread_of (boot_in shared script) u) o place (λ row is. born-back shared script u row shaped is)

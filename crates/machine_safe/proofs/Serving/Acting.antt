@@ -225,16 +225,16 @@ deed-close S t at P row handle (Some o) each =
 pub deed-step : (script : Script) (S : State) (t : ObjNo) (at : Option Instr) (P : Decision → Type 0) (row : ThreadRow)
     (i : Instr) (p : Option Part)
     → IsRegular (kind_of i p) script S t (step_of script S t row i p) → thread_of S t ≡ Some row → row.stage ≡ Live
-    → is_returning p ≡ false → (keeps_handle (Some i) p ≡ true → KeepsHandle S t row) → at ≡ Some i → OfEach S t at P
+    → is_returning p ≡ false → row.part ≡ p → (keeps_handle (Some i) p ≡ true → KeepsHandle S t row) → at ≡ Some i → OfEach S t at P
     → P (step_of script S t row i p)
-deed-step script S t at P row (instr.Close x) p regular is live going kept here each = deed-close S t at P row _ _ each
-deed-step script S t at P row (instr.Server name x) p regular is live going kept here each = deed-server S t at P name x each
-deed-step script S t at P row (instr.Connect name slots x) (Some p) regular is live going kept here each =
+deed-step script S t at P row (instr.Close x) p regular is live going begun kept here each = deed-close S t at P row _ _ each
+deed-step script S t at P row (instr.Server name x) p regular is live going begun kept here each = deed-server S t at P name x each
+deed-step script S t at P row (instr.Connect name slots x) (Some p) regular is live going begun kept here each =
     deed-connect S t at (record { row = row; is = is; live = live }) P row name slots x p going
     (λ keeps s made. session-other S t row s (kept keeps) made) here each
-deed-step script S t at P row (instr.Send x function y args) (Some p) regular is live going kept here each =
-    deed-send S t at (record { row = row; is = is; live = live }) P row x function y args p is here each
-deed-step script S t at P row (instr.Call x function args) (Some p) regular is live going kept here each =
+deed-step script S t at P row (instr.Send x function y args) (Some p) regular is live going begun kept here each =
+    deed-send S t at (record { row = row; is = is; live = live }) P row x function y args p is live begun here each
+deed-step script S t at P row (instr.Call x function args) (Some p) regular is live going begun kept here each =
     deed-call S t at (record { row = row; is = is; live = live }) P row x function args p here each
-deed-step script S t at P row (instr.Complete y code) p regular is live going kept here each = deed-complete S t at P y code _ _ here refl each
-deed-step script S t at P row i p regular is live going kept here each = calm each _ (regular.calm refl) (regular.sends refl)
+deed-step script S t at P row (instr.Complete y code) p regular is live going begun kept here each = deed-complete S t at P y code _ _ here refl each
+deed-step script S t at P row i p regular is live going begun kept here each = calm each _ (regular.calm refl) (regular.sends refl)

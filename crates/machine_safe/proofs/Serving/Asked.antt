@@ -1,8 +1,8 @@
 -- What instructions ask for at the steps behind their looks and finds.
-use Rattle.std.proofs.Common.{get_or, Bool, List, None, Option, Some, arith, false, refl, subst, sym, true, ℕ, ◌≡◌, [], ◌∷◌}
+use Rattle.std.proofs.Common.{get_or, ap, Bool, List, None, Option, Some, arith, false, refl, subst, sym, true, ℕ, ◌<◌, ◌≡◌, [], ◌∷◌}
 use Rattle.std.proofs.lemmas.Bool.{and_parts}
 use Rattle.std.proofs.lemmas.List.Quantifiers.{position-Some}
-use Rattle.std.specs.Prelude.{bytes_eq, if◌then◌else◌, nat_lt, position, slice_index, ◌==◌, ◌||◌}
+use Rattle.std.specs.Prelude.{bytes_eq, if◌then◌else◌, is_some, nat_lt, position, slice_index, ◌==◌, ◌||◌}
 use Rattle.sym_base.specs.KindNumber.{kind_number}
 use Rattle.sym_base.specs.declared.kind.Kind.{Kind}
 use Rattle.sym_base.specs.declared.kind.Kind.TheVariants as kind
@@ -12,7 +12,7 @@ use Rattle.script_types.specs.declared.instruction.Args.{Args}
 use Rattle.script_types.specs.declared.instruction.Instr.TheVariants as instr
 use Rattle.script_types.specs.declared.script.Script.{Script}
 use Rattle.entry_log.specs.declared.step.Part.TheVariants as part
-use Rattle.state_rows.specs.ObjectRows.{has_name, is_dead_row, is_session, named, numbered}
+use Rattle.state_rows.specs.ObjectRows.{has_name, is_dead_row, is_session, named, numbered, place_of}
 use Rattle.state_rows.specs.Requests.{is_pending}
 use Rattle.state_rows.specs.ServerRows.{owner_of}
 use Rattle.state_rows.specs.declared.object.ObjectRow.{ObjectRow}
@@ -27,9 +27,9 @@ use Rattle.machine.specs.Rows.{object_of}
 use Rattle.machine.specs.WellFormed.{AreRows}
 use Rattle.machine.specs.declared.moves.Move.TheVariants.{Find}
 use Rattle.machine.specs.declared.state.State.{State}
-use Rattle.machine_safe.proofs.Serving.Course.{AsksOf, IsMet, IsOfKind, IsUnset}
+use Rattle.machine_safe.proofs.Serving.Course.{AsksOf, FoundOf, IsMet, IsOfKind, IsUnset}
 use Rattle.machine_safe.proofs.Serving.Proper.{is_kind}
-use Rattle.move_laws.proofs.Lists.Totals.{inside}
+use Rattle.move_laws.proofs.Lives.Bits.{there_inside}
 use Rattle.move_laws.proofs.References.Same.{same_object}
 
 module _ (script : Script) (S : State) (t : ObjNo) (old : ThreadRow) (rows : AreRows script S) where
@@ -42,7 +42,7 @@ module _ (script : Script) (S : State) (t : ObjNo) (old : ThreadRow) (rows : Are
       by : (x : Option ObjectRow) → object_of S o ≡ x → is_of_kind k x ≡ true → OfKind k o
       by None at e = absurd (cc)
       by (Some row) at e = record {
-        made = inside S.references.objects o.0 row at;
+        there = ap is_some at;
         kind = λ r there. let same : row ≡ r = cc in subst (λ (x : ObjectRow). is_kind k x.kind ≡ true) same e;
       }
 
@@ -118,11 +118,14 @@ module _ (script : Script) (S : State) (t : ObjNo) (old : ThreadRow) (rows : Are
   }
 
   pub asks-send : (x n y : ℕ) (args : Args) (found : Option ObjNo) → is_pending S.synchronization.requests t y ≡ false
-      → AsksOf S t old (instr.Send x n y args) found
+      → AsksOf S t old (instr.Send x n y args) (of_kind S kind.Session found)
   asks-send x n y args found not names o e asked = record {
     unset = λ s is. let same : y ≡ s = cc in subst (IsUnset S.synchronization.requests t) same (unset y not);
     wanted = λ is. absurd (cc);
-    used = λ k u is used. absurd (cc);
+    used = λ k u is used.
+        let same : kind.Session ≡ k = cc in
+        let own : o ≡ u = cc in
+        subst (λ (z : Kind). OfKind z u) same (subst (OfKind kind.Session) own (looked-kind kind.Session found o e));
     found = λ k is. absurd (cc);
     owned = λ u is used. absurd (cc);
     came = λ u is used. absurd (cc);
@@ -139,37 +142,47 @@ module _ (script : Script) (S : State) (t : ObjNo) (old : ThreadRow) (rows : Are
   }
 
   -- and the returns of an open and of a connect
+  found-place : (k : Kind) (o : ObjNo) → OfKind k o → found_object (with_found o (place_of (object_of S o)) old) ≡ o
+      → FoundOf S k (place_of (object_of S o)) (found_object (with_found o (place_of (object_of S o)) old))
+  found-place k o is_one own = subst (FoundOf S k (place_of (object_of S o))) (sym own)
+      (record { made = by (object_of S o) refl is_one.there; kind = λ row is same. is_one.kind row is })
+    where
+      by : (x : Option ObjectRow) → object_of S o ≡ x → is_some x ≡ true → place_of x < S.references.made
+      by None at some = absurd (cc)
+      by (Some row) at some = rows.references.places.below o.0 row at
+
+  found-number : (k : Kind) (o : ObjNo) → OfKind k o → found_object (with_found o (place_of (object_of S o)) old) ≡ o
+  found-number k o is_one =
+      let within = there_inside S.references.objects o.0 is_one.there in
+      let few = rows.references.sized.objects_few in
+      same_object (found_object (with_found o (place_of (object_of S o)) old)) o (omega arith)
+
   pub asks-opened : (k : Kind) (name : List ℕ) (x : ℕ) (o : ObjNo) → find_object S k name ≡ Some o
-      → IsMet (perform t (Find t o ∷ []) S) t (with_found o old) (instr.Open k name x) (Some part.Return)
+      → IsMet (perform t (Find t o ∷ []) S) t (with_found o (place_of (object_of S o)) old) (instr.Open k name x) (Some part.Return)
   asks-opened k name x o e asked =
       let is_one = found-kind k name o e in
-      let within = is_one.made in
-      let few = rows.references.sized.objects_few in
-      let own : found_object (with_found o old) ≡ o = same_object (found_object (with_found o old)) o (omega arith) in
       record {
         unset = λ s is. absurd (cc);
         wanted = λ is. absurd (cc);
         used = λ j u is used. absurd (cc);
-        found = λ j is. let same : k ≡ j = cc in subst (λ (z : Kind). OfKind z (found_object (with_found o old))) same (subst (OfKind k) (sym own) is_one);
+        found = λ j is. let same : k ≡ j = cc in
+            subst (λ (z : Kind). FoundOf S z (place_of (object_of S o)) (found_object (with_found o (place_of (object_of S o)) old))) same
+            (found-place k o is_one (found-number k o is_one));
         owned = λ u is used. absurd (cc);
         came = λ u is used. absurd (cc);
       }
 
   pub asks-return : (name : List ℕ) (slots : Slots) (x : ℕ) (o : ObjNo) → find_object S kind.Server name ≡ Some o
-      → IsMet (perform t (Find t o ∷ []) S) t (with_found o old) (instr.Connect name slots x) (Some part.Return)
+      → IsMet (perform t (Find t o ∷ []) S) t (with_found o (place_of (object_of S o)) old) (instr.Connect name slots x) (Some part.Return)
   asks-return name slots x o e asked =
       let is_server = found-kind kind.Server name o e in
-      let within = is_server.made in
-      let few = rows.references.sized.objects_few in
-      let own : found_object (with_found o old) ≡ o = same_object (found_object (with_found o old)) o (omega arith) in
       record {
         unset = λ s is. absurd (cc);
         wanted = λ is. absurd (cc);
         used = λ k u is used. absurd (cc);
-        found =
-            λ k is. let same : kind.Server ≡ k = cc in
-            subst (λ (z : Kind). OfKind z (found_object (with_found o old))) same
-            (subst (OfKind kind.Server) (sym own) is_server);
+        found = λ k is. let same : kind.Server ≡ k = cc in
+            subst (λ (z : Kind). FoundOf S z (place_of (object_of S o)) (found_object (with_found o (place_of (object_of S o)) old))) same
+            (found-place kind.Server o is_server (found-number kind.Server o is_server));
         owned = λ u is used. absurd (cc);
         came = λ u is used. absurd (cc);
       }

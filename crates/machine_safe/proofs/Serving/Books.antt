@@ -26,7 +26,7 @@ use Rattle.machine_laws.proofs.Fitting.Interrupts.{goes-immediate, goes-interrup
 use Rattle.machine_laws.proofs.Fitting.Regular.{IsRegular, IsTame, Kinds, advance_bit, plain}
 use Rattle.machine_laws.proofs.Fitting.Tame.{tame-moves}
 use Rattle.machine_safe.proofs.Deaths.Rows.{row_bit, stage_live}
-use Rattle.machine_safe.proofs.Serving.Deeds.{Looked, OfEach, calm}
+use Rattle.machine_safe.proofs.Serving.Deeds.{Looked, OfEach, SendsOver, calm}
 use Rattle.machine_safe.proofs.Serving.Doing.{Doing, doing, doing-by, keeps-doing, lost-doing, quiet-doing}
 use Rattle.machine_safe.proofs.Serving.Fated.{doom-among, doom-told}
 use Rattle.machine_safe.proofs.Serving.Finished.{turn-finishes}
@@ -38,7 +38,7 @@ use Rattle.machine_safe.proofs.Serving.Served.{served-keeps, served-made, served
 use Rattle.machine_safe.proofs.Serving.Founding.{turn-makes}
 use Rattle.machine_safe.proofs.Serving.Joining.{turn-joins}
 use Rattle.machine_safe.proofs.Serving.Stopping.{turn-closes, turn-stops}
-use Rattle.machine_safe.proofs.Serving.Turns.{at-instruction, Book, IsTurn, entry_for, turn-keeps, unserving}
+use Rattle.machine_safe.proofs.Serving.Turns.{at-instruction, Book, IsTurn, entry_for, turn-keeps, unmade-by, unrenewed, unserving}
 use Rattle.machine_safe.specs.CountAfter.{effects_of, is_by}
 use Rattle.machine_safe.specs.SafeDeaths.{dooms}
 use Rattle.machine_safe.specs.Sent.{instruction_in}
@@ -60,7 +60,6 @@ use Rattle.entry_log.specs.declared.step.Step.TheVariants as step
 use Rattle.state_rows.specs.declared.deferred.Item.TheVariants as item
 use Rattle.machine_safe.proofs.Serving.Giving.{deed-of}
 use Rattle.machine.specs.declared.moves.Move.{Move}
-use Rattle.machine_safe.proofs.Serving.Since.{fresh-on}
 use Rattle.machine_safe.proofs.Serving.Slots.{slotted-keeps}
 use Rattle.script_types.specs.declared.declaration.DfcDecl.{DfcDecl}
 use Rattle.script_types.specs.declared.declaration.IdfcDecl.{IdfcDecl}
@@ -89,6 +88,7 @@ turn-without script before S place t actor d rows book nobody silent unsent calm
     let fs = tell t d.moves S in
     let k = keeps-doing script S t d.moves does rows (served-made script (reading before) S book.served) (changing-none d.moves (calm.calm refl)) in
     let q = quiet-doing script S t d.moves does (message-none d.moves (calm.calm refl)) in
+    let unmade = unmade-by e (λ _. k.unowned (calm.mutexes refl)) in
     record {
       book = record {
         served = served-same script (further (reading before) d.step fs (steps_of t d.moves)) (reading (before ++ e ∷ [])) (perform t d.moves S)
@@ -97,11 +97,11 @@ turn-without script before S place t actor d rows book nobody silent unsent calm
             (λ v. let a = calm.dooms v in let b = doom-told t d.moves S v in omega arith) (λ v. doom-among t d.moves S v)
             (λ v row there. let most = lost-doing script S t d.moves v does rows in let none = lost-none v d.moves (calm.calm refl) in omega arith)
             (λ _. calm.mutexes refl) (λ v some. let none = detach-none v d.moves (calm.calm refl) in absurd (omega arith)));
-        letters = letters-quiet script before S (perform t d.moves S) e book.letters (λ p among. k.unlinked p.session) q (λ p among. k.unended p.server);
+        letters = letters-quiet script before S (perform t d.moves S) e book.letters (λ p among. k.unlinked p.session) q
+            (λ p among. k.unended p.server) (λ p among. unmade p.server);
         slotted = slotted-keeps script before e S (perform t d.moves S) book.slotted k.unlinked k.slots q.pool;
-        fresh = fresh-on before e book.fresh (λ _. k.unowned (calm.mutexes refl));
       };
-      lawful = unserving script before e q.accepts q.finishes k.unended (λ sends. absurd (cc));
+      lawful = unserving script before e q.accepts q.finishes k.unended (λ sends. absurd (cc)) (unrenewed before e unmade);
     }
 
 -- each thread that is there is live, or was doomed once
@@ -110,19 +110,17 @@ IsFated before S = (u : ObjNo) (row : ThreadRow) → thread_of S u ≡ Some row 
 
 module _ (script : Script) (before : List Entry) (S : State) (place : ℕ) (shaped : IsShaped script)
     (rows : AreRows script S) (book : Book script before S) (looked : Looked script before S) (kept : KeepHandles script S)
-    (fate : IsFated before S) where
+    (over : SendsOver script S) (fate : IsFated before S) where
   -- an action of a thread
   each-turn : (t : ObjNo)
       → OfEach S t (instruction_in script before t)
       (λ (d : Decision). (k : Kinds) → IsRegular k script S t d → Doing script S t d.moves
       → IsTurn script before (entry_for place t S d) (perform t d.moves S))
   each-turn t = record {
-    keeps = λ d is k regular. turn-keeps script before S place t rows book d regular looked is;
+    keeps = λ d is k regular. turn-keeps script before S place t rows book d regular looked over is;
     sends = λ d is k regular does. turn-sends script before S place t rows book looked d regular is does fate;
     finishes = λ d is k regular does. turn-finishes script before S place t rows book d regular is does fate;
-    makes =
-        λ d is k regular does. turn-makes script before S place t rows book d regular is does
-        (λ u live. let a = fate u live.row live.is in let b = ap stage_live live.live in omega arith);
+    makes = λ d is k regular. turn-makes script before S place t rows book d regular is;
     joins = λ d is k regular. turn-joins script before S place t rows book d regular is;
     closes = λ d is k regular. turn-closes script before S place t rows book d regular is;
     stops = λ d is k regular. turn-stops script before S place t rows book d regular is;
@@ -206,12 +204,11 @@ book-boot shared script shaped = record {
   served = record {
     rows = λ o row is. let none = copy_at {A = Option ServerRow} None OBJECTS o.0 in absurd (cc);
     links = λ s o is. let none = ap link_of (no_session OBJECTS s) in absurd (cc);
-    ended = λ o some. absurd (omega arith);
+    same = λ s o is. refl;
+    ended = λ o row is some. absurd (omega arith);
     over = λ u o some. absurd (omega arith);
     made = λ t o is. absurd (cc);
-    unmade = λ o past. refl;
-    told_made = λ s v is. absurd (cc);
-    told_linked = λ s v is alive. absurd (cc);
+    told_linked = λ s v row is there alive. absurd (cc);
     places =
         λ k row is. record {
           first = row;
@@ -228,5 +225,4 @@ book-boot shared script shaped = record {
     sends = refl;
   };
   slotted = record { sessions = λ s row is. let none = no_session OBJECTS s in absurd (cc); pool = refl; servers = λ s. refl };
-  fresh = λ v t owns. absurd (cc);
 }

@@ -1,4 +1,5 @@
 -- The handle that a `connect` keeps from the step that makes its session on is in the thread's own table, and of no server.
+use Rattle.state_rows.specs.ObjectRows.{place_of}
 use Rattle.machine_safe.proofs.Serving.Owning.{Owned}
 use Rattle.machine_safe.proofs.Serving.Proceeding.{IsProperly}
 use Rattle.machine_safe.proofs.Serving.Unserved.{none-each, server-joined, slot_made}
@@ -49,7 +50,7 @@ use Rattle.state_rows.specs.declared.duty.Owed.{Owed}
 use Rattle.machine.specs.Steps.{return_of, step_of}
 use Rattle.sym_base.specs.declared.word.Word.TheVariants as word
 use Rattle.move_laws.proofs.Lists.Cases.{if_cases}
-use Rattle.machine.specs.Messaging.{wake_receiver, open_server, slots_of, connects, no_args}
+use Rattle.machine.specs.Messaging.{wake_receiver, server_to_open, slots_of, connects, no_args}
 use Rattle.state_rows.specs.Nano.{held_by}
 use Rattle.sym_base.specs.declared.kind.Kind.TheVariants as kind
 use Rattle.machine.specs.ThreadCalls.{is_live}
@@ -91,7 +92,7 @@ kept-later at (Some p) e = refl
 kept-on : (script : Script) (S : State) (t : ObjNo) (ms : List Move) → EachFits script t ms S
     → (u : ObjNo) (row : ThreadRow) (c : Carries S (perform t ms S) u row)
     → ((s : ObjNo) → (slot_at (table_of S u) (index_of c.mid.old.found)).object ≡ Some s
-    → s.0 < length S.references.objects)
+    → is_some (object_of S s) ≡ true)
     → KeepsHandle S u c.mid.old → KeepsHandle (perform t ms S) u row
 kept-on script S t ms fits u row c made was = record {
   own = ap is_local (sym c.mid.found) ∙ was.own;
@@ -128,7 +129,7 @@ low-index i n low = omega arith
 paid-none : (S : State) (t : ObjNo) (what : Owed) (s : ObjNo) → is_some (server_at S.serving.servers s) ≡ false
     → is_some (server_at (moved t (Pay what) S).serving.servers s) ≡ false
 paid-none S t (duty.Close h o) s none = none
-paid-none S t (duty.Sweep o) s none = none
+paid-none S t (duty.Sweep o) s none = server-joined S.serving.servers.servers o.0 s.0 none
 
 paid-slot : (S : State) (t : ObjNo) (what : Owed) (u : ObjNo) (i : ℕ)
     → (slot_at (table_of S u) i).object ≡ (slot_at (table_of (moved t (Pay what) S) u) i).object
@@ -153,7 +154,7 @@ kept-fact script = record {
   carried =
       λ S t ms rows has u row is c passes was. kept-on script S t ms passes.goes.each u row c
       (λ s slot. slot_made script S u (index_of c.mid.old.found) s rows slot) was;
-  paid = λ S t what u row is mid was. record {
+  paid = λ S t what rows dead u row is mid was. record {
     own = ap is_local (sym mid.found) ∙ was.own;
     there =
         ap (λ (l : List HandleSlot). is_some (look true l row.found)) (paid-table S t what u)
@@ -254,7 +255,7 @@ module _ (script : Script) (S : State) (t : ObjNo) (rows : AreRows script S) (ow
   seek-kept None fits = answered-kept (seek_object t word.Connect None) _ refl fits
   seek-kept (Some o) fits =
       early-kept (seek_object t word.Connect (Some o)) (Some part.Return)
-      (λ row is. part-after S.references.threads t (with_found o) (Some part.Return) (λ r. refl) row is) kept-return
+      (λ row is. part-after S.references.threads t (with_found o (place_of (object_of S o))) (Some part.Return) (λ r. refl) row is) kept-return
 
   make-kept : (slots : Slots) (o : ObjNo) (server : Option ServerRow)
       → FitsAction calling script S t (connect_to S t slots o server) → KeptThen (connect_to S t slots o server)
@@ -288,7 +289,7 @@ module _ (script : Script) (S : State) (t : ObjNo) (rows : AreRows script S) (ow
   send-kept old (Some s) here had fits =
       if_cases (λ (d : Decision). FitsAction calling script S t d → KeptThen d)
       (is_some (held_by S.synchronization.nano t)) _ _ (λ _ f. answered-kept _ _ refl f)
-      (λ _ f. sent-kept old s (open_server S s) here had f) fits
+      (λ _ f. sent-kept old s (server_to_open S s) here had f) fits
 
   done-kept : (old : ThreadRow) (x : ℕ) (session : Option ObjNo)
       → FitsAction calling script S t (connect_done S t old x session) → KeptThen (connect_done S t old x session)
@@ -324,7 +325,7 @@ module _ (script : Script) (S : State) (t : ObjNo) (rows : AreRows script S) (ow
       → FitsAction looking script S t (return_of S t old i) → KeptThen (return_of S t old i)
   return-kept old (instr.Connect name slots x) here at fits =
       let o = found_object old in
-      if_cases (λ (d : Decision). FitsAction looking script S t d → KeptThen d) (is_open (object_of S o)) _ _
+      if_cases (λ (d : Decision). FitsAction looking script S t d → KeptThen d) (is_open old.sought (object_of S o)) _ _
       (λ _ f. early-kept (one_move (Of word.Connect part.Return) (Open t o part.Make)) (Some part.Make)
       (λ row is. part-after S.references.threads t (with_opened o part.Make) (Some part.Make) (λ r. refl) row is)
       kept-make)

@@ -7,7 +7,7 @@ use Rattle.machine.specs.Handles.{object_at}
 use Rattle.machine.specs.Look.{of_kind}
 use Rattle.state_rows.specs.ServerRows.{is_closing, owner_of}
 use Rattle.state_rows.specs.MessageChanges.{next_of}
-use Rattle.std.proofs.Common.{[], length, Bool, List, None, Option, Some, false, get_or, true, ℕ, ℤ, ◌∷◌, ◌≡◌, ◌⊎◌, ◌<◌}
+use Rattle.std.proofs.Common.{[], Bool, List, None, Option, Some, false, get_or, true, ℕ, ℤ, ◌∷◌, ◌≡◌, ◌⊎◌, ◌<◌}
 use Rattle.std.specs.Prelude.{is_some}
 use Rattle.script_types.specs.declared.instruction.Instr.{Instr}
 use Rattle.script_types.specs.declared.script.Script.{Script}
@@ -118,6 +118,7 @@ abbrev pub kind_used : Instr → Option Part → Option Kind
 kind_used (instr.Lock x) (Some part.Do) = Some kind.Mutex
 kind_used (instr.Open k name x) (Some part.Do) = Some k
 kind_used (instr.Logon x s) (Some part.Do) = Some kind.Thread
+kind_used (instr.Send x function y args) (Some part.Do) = Some kind.Session
 kind_used (instr.Connect name slots x) (Some part.Make) = Some kind.Server
 kind_used i p = None
 
@@ -162,10 +163,18 @@ pub data Lacks (script : Script) (S : State) (t : ObjNo) (old : ThreadRow) (i : 
   unwanted : wants_at i p ≡ true → want_of S.synchronization.nano t ≡ None → Lacks script S t old i p
   unnamed : (name : List ℕ) → call_name i ≡ Some name → dfc_named script name ≡ None → Lacks script S t old i p
 
--- an object that was made, and is of a kind as long as it isn't swept
+-- an object that is there, and is of a kind
 pub record IsOfKind (objects : List (Option ObjectRow)) (k : Kind) (o : ObjNo) : Type 0 where
-  pub made : o.0 < length objects
+  pub there : is_some (get_or objects o.0 None) ≡ true
   pub kind : (row : ObjectRow) → get_or objects o.0 None ≡ Some row → is_kind k row.kind ≡ true
+
+-- the object of a place that was made, which is of a kind as long as it stands at its number: another one may have that since
+pub record WasOfKind (count : ℕ) (objects : List (Option ObjectRow)) (k : Kind) (place : ℕ) (o : ObjNo) : Type 0 where
+  pub made : place < count
+  pub kind : (row : ObjectRow) → get_or objects o.0 None ≡ Some row → row.place ≡ place → is_kind k row.kind ≡ true
+
+abbrev pub FoundOf : State → Kind → ℕ → ObjNo → Type 0
+FoundOf S k place o = WasOfKind S.references.made S.references.objects k place o
 
 -- a status that isn't pending, and of which no device has a request
 pub record IsUnset (r : RequestRows) (t : ObjNo) (s : ℕ) : Type 0 where
@@ -182,7 +191,7 @@ pub record Met (S : State) (t : ObjNo) (row : ThreadRow) (i : Instr) (p : Option
   pub unset : (s : ℕ) → sets_status i p ≡ Some s → IsUnset S.synchronization.requests t s
   pub wanted : wants_at i p ≡ true → is_some (want_of S.synchronization.nano t) ≡ true
   pub used : (k : Kind) (o : ObjNo) → kind_used i p ≡ Some k → row.uses ≡ Some o → IsOfKind S.references.objects k o
-  pub found : (k : Kind) → kind_found i p ≡ Some k → IsOfKind S.references.objects k (found_object row)
+  pub found : (k : Kind) → kind_found i p ≡ Some k → FoundOf S k row.sought (found_object row)
   pub owned : (o : ObjNo) → receiving (Some i) p ≡ true → row.uses ≡ Some o → owner_of S.serving.servers o ≡ Some t
   pub came : (o : ObjNo) → takes_at i p ≡ true → row.uses ≡ Some o → HasCome S row o
 

@@ -4,7 +4,7 @@ use Rattle.machine_safe.proofs.Serving.Proper.{AreProper, IsOfProcess, IsOther, 
 use Rattle.machine_safe.proofs.Serving.ProperLists.{given-in-process, given-in-thread, made-in-process, named-declared, proper-close, proper-doom_or_note, proper-logon}
 use Rattle.machine.specs.declared.moves.Move.TheVariants.{Advance, Find, Nano, SetPriority}
 use Rattle.machine.specs.declared.nano_move.NanoMove.TheVariants.{Suspend, Resume}
-use Rattle.std.proofs.Common.{[]}
+use Rattle.std.proofs.Common.{[], arith}
 use Rattle.machine.specs.Dooms.{doom_or_note}
 use Rattle.machine.specs.Handles.{holder_of}
 use Rattle.machine.specs.Closing.{close_moves}
@@ -42,7 +42,10 @@ use Rattle.move_laws.proofs.Holders.ThreadRows.{row-here}
 use Rattle.machine.specs.declared.moves.Move.{Move}
 use Rattle.machine.specs.ExitCalls.{exit_on, exit_unless_noted, exit_unless_refused, exittype_on}
 use Rattle.machine.specs.Look.{look_at}
-use Rattle.machine.specs.ThreadCalls.{call_on, move_or_refuse, refusal_of, unless_refused, suspend_move, resume_move}
+use Rattle.machine.specs.Fits.{IsLive}
+use Rattle.state_rows.specs.declared.thread.Stage.{Stage}
+use Rattle.state_rows.specs.declared.thread.Stage.TheVariants.{Buried, Cleaned, Doomed, Live}
+use Rattle.machine.specs.ThreadCalls.{call_on, move_or_refuse, refusal_of, refusal_of_role, unless_live, unless_refused, suspend_move, resume_move}
 use Rattle.sym_base.specs.declared.kind.Kind.TheVariants as kind
 use Rattle.machine.specs.Dooms.{noted_of}
 use Rattle.sym_base.specs.declared.kind.Exit.{Exit}
@@ -56,7 +59,7 @@ use Rattle.machine.specs.LogonCalls.{logon_row, logon_do}
 use Rattle.state_rows.specs.Requests.{is_pending}
 use Rattle.machine.specs.Find.{seek_object}
 use Rattle.state_rows.specs.DeclaredCalls.{dfc_named}
-use Rattle.state_rows.specs.ObjectRows.{is_taken}
+use Rattle.state_rows.specs.ObjectRows.{is_taken, place_of}
 use Rattle.state_rows.specs.Deferred.{is_queued}
 use Rattle.state_rows.specs.declared.deferred.Item.TheVariants as item
 use Rattle.machine.specs.Queueing.{queue_named}
@@ -65,6 +68,20 @@ use Rattle.machine.specs.Create.{create_do, make_with_handle}
 use Rattle.machine.specs.Close.{close_handle}
 use Rattle.machine.specs.declared.lock_move.LockMove.{LockMove}
 use Rattle.sym_base.specs.declared.kind.Kind.{Kind}
+
+-- a thread that isn't refused is live
+live-called : (x : Option ThreadRow) → refusal_of x ≡ None → (row : ThreadRow) → x ≡ Some row → row.stage ≡ Live
+live-called None e row is = absurd (cc)
+live-called (Some old) e row is =
+    let same : old ≡ row = cc in
+    ap (λ (r : ThreadRow). r.stage) (sym same) ∙ by (refusal_of_role old.role) old.stage e
+  where
+    by : (refusal : Option Error) (stage : Stage) → unless_live stage refusal ≡ None → stage ≡ Live
+    by None Live e = refl
+    by None Doomed e = absurd (cc)
+    by None Cleaned e = absurd (cc)
+    by None Buried e = absurd (cc)
+    by (Some r) stage e = absurd (cc)
 
 module _ (script : Script) (S : State) (t : ObjNo) (old : ThreadRow) (here : thread_of S t ≡ Some old) (rows : AreRows script S) where
   abbrev pub Comes : Instr → Option Part → Decision → Type 0
@@ -124,12 +141,12 @@ module _ (script : Script) (S : State) (t : ObjNo) (old : ThreadRow) (here : thr
 
   pub seeks : {i : Instr} (w : Word) (found : Option ObjNo) → has_step i part.Return ≡ true
       → uses_at i part.Return ≡ false
-      → ((o : ObjNo) → found ≡ Some o → IsMet (perform t (Find t o ∷ []) S) t (with_found o old) i (Some part.Return))
+      → ((o : ObjNo) → found ≡ Some o → IsMet (perform t (Find t o ∷ []) S) t (with_found o (place_of (object_of S o)) old) i (Some part.Return))
       → Comes i None (seek_object t w found)
   seeks w None has early met = answers _ refl refl (tt, tt)
   seeks {i} w (Some o) has early met =
       goes part.Return has refl refl (tt, tt)
-      (on-one i part.Return (with_found o) refl (λ needs. absurd (cc)) (λ own had. met o refl))
+      (on-one i part.Return (with_found o (place_of (object_of S o))) refl (λ needs. absurd (cc)) (λ own had. met o refl))
 
   -- the calls on threads
   abbrev pub MayCall : Option Move → Type 0
@@ -140,33 +157,35 @@ module _ (script : Script) (S : State) (t : ObjNo) (old : ThreadRow) (here : thr
   calls w error (Some m) may = answers _ refl refl (may m refl)
 
   pub unrefused : {i : Instr} {p : Option Part} (w : Word) (refusal : Option Error) (error : Error) (move : Option Move)
-      → MayCall move → Comes i p (unless_refused t w refusal error move)
-  unrefused w None error move may = calls w error move may
+      → (refusal ≡ None → MayCall move) → Comes i p (unless_refused t w refusal error move)
+  unrefused w None error move may = calls w error move (may refl)
   unrefused w (Some r) error move may = answers _ refl refl (tt, tt)
 
   pub on-thread : {i : Instr} {p : Option Part} (w : Word) (error : Error) (move : ObjNo → Option Move)
       (uses : Option ObjNo)
-      → needs_use (Some i) p ≡ true → old.uses ≡ uses → ((u : ObjNo) → MayCall (move u))
+      → needs_use (Some i) p ≡ true → old.uses ≡ uses → ((u : ObjNo) → IsLive S u → MayCall (move u))
       → Comes i p (call_on S t w error move uses)
   on-thread w error move None needs e may = idles (unused needs e) refl
-  on-thread w error move (Some u) needs e may = unrefused w (refusal_of (thread_of S u)) error (move u) (may u)
+  on-thread w error move (Some u) needs e may = unrefused w (refusal_of (thread_of S u)) error (move u) (λ none. may u (live-called (thread_of S u) none))
 
-  pub may-suspend : (u : ObjNo) → MayCall (suspend_move S u)
-  may-suspend u = by (suspend_count S.synchronization.nano u == 127)
+  pub may-suspend : (u : ObjNo) → IsLive S u → MayCall (suspend_move S u)
+  may-suspend u live = by (suspend_count S.synchronization.nano u == 127)
     where
       by : (b : Bool) (m : Move) → (if b then None else Some (Nano (Suspend u))) ≡ Some m → AreProper script (stepping S t) (m ∷ Advance t ∷ [])
       by true m e = absurd (cc)
-      by false m e = let same : Nano (Suspend u) ≡ m = cc in subst (λ (x : Move). AreProper script (stepping S t) (x ∷ Advance t ∷ [])) same (tt, (tt, tt))
+      by false m e =
+          let same : Nano (Suspend u) ≡ m = cc in
+          subst (λ (x : Move). AreProper script (stepping S t) (x ∷ Advance t ∷ [])) same ((refl, live, refl), (tt, tt))
 
-  pub may-resume : (u : ObjNo) → MayCall (resume_move S u)
-  may-resume u = by (suspend_count S.synchronization.nano u == 0)
+  pub may-resume : (u : ObjNo) → IsLive S u → MayCall (resume_move S u)
+  may-resume u live = by (suspend_count S.synchronization.nano u == 0)
     where
       by : (b : Bool) (m : Move) → (if b then None else Some (Nano (Resume u))) ≡ Some m → AreProper script (stepping S t) (m ∷ Advance t ∷ [])
       by true m e = absurd (cc)
       by false m e = let same : Nano (Resume u) ≡ m = cc in subst (λ (x : Move). AreProper script (stepping S t) (x ∷ Advance t ∷ [])) same (tt, (tt, tt))
 
-  pub may-set : (priority : ℕ) (u : ObjNo) → MayCall (Some (SetPriority u priority))
-  may-set priority u m e =
+  pub may-set : (priority : ℕ) (u : ObjNo) → IsLive S u → MayCall (Some (SetPriority u priority))
+  may-set priority u live m e =
       let same : SetPriority u priority ≡ m = cc in
       subst (λ (x : Move). AreProper script (stepping S t) (x ∷ Advance t ∷ [])) same (tt, (tt, tt))
 
@@ -241,23 +260,26 @@ module _ (script : Script) (S : State) (t : ObjNo) (old : ThreadRow) (here : thr
 
   pub makes-object : {i : Instr} {p : Option Part} (k : Kind) (name : List ℕ) (start : Option LockMove) (x : ℕ)
       (handle : Option NewHandle)
-      → is_kind kind.Server k ≡ false → is_kind kind.Thread k ≡ false → process_handle S old.process ≡ handle
+      → is_kind kind.Server k ≡ false → is_kind kind.Thread k ≡ false → is_kind kind.Session k ≡ false → process_handle S old.process ≡ handle
       → Comes i p (make_with_handle t k name start x handle)
-  makes-object k name start x None server thread is = answers _ refl refl (tt, tt)
-  makes-object k name None x (Some handle) server thread is =
+  makes-object k name start x None server thread session is = answers _ refl refl (tt, tt)
+  makes-object k name None x (Some handle) server thread session is =
       answers _ refl refl (
-        made-in-process (stepping S t) S old.process k handle server thread own-process is,
+        (made-in-process (stepping S t) S old.process k handle server thread own-process is, omega arith, λ other. absurd (cc)),
         (tt, (tt, tt)),
       )
-  makes-object k name (Some start) x (Some handle) server thread is =
-      answers _ refl refl (made-in-process (stepping S t) S old.process k handle server thread own-process is, (tt, (tt, (tt, tt))))
+  makes-object k name (Some start) x (Some handle) server thread session is =
+      answers _ refl refl (
+        (made-in-process (stepping S t) S old.process k handle server thread own-process is, omega arith, λ other. absurd (cc)),
+        (tt, (tt, (tt, tt))),
+      )
 
   pub creates : {i : Instr} {p : Option Part} (k : Kind) (name : List ℕ) (start : Option LockMove) (x : ℕ)
-      → is_kind kind.Server k ≡ false → is_kind kind.Thread k ≡ false → Comes i p (create_do S t old k name start x)
-  creates k name start x server thread =
+      → is_kind kind.Server k ≡ false → is_kind kind.Thread k ≡ false → is_kind kind.Session k ≡ false → Comes i p (create_do S t old k name start x)
+  creates k name start x server thread session =
       either (is_taken k name S.references.objects) _ _ (answers _ refl refl (tt, tt))
       (either (no_number_left S) _ _ (answers _ refl refl (tt, tt))
-      (makes-object k name start x (process_handle S old.process) server thread refl))
+      (makes-object k name start x (process_handle S old.process) server thread session refl))
 
   holder-handle : (handle : ℕ) → is_handle (holder_of t old handle) ≡ true
   holder-handle handle = if_cases (λ (h : Holder). is_handle h ≡ true) (is_local handle) _ _ (λ _. refl) (λ _. refl)

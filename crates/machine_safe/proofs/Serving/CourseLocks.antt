@@ -20,7 +20,7 @@ use Rattle.state_rows.specs.declared.locks.Signalled.TheVariants as signalled
 use Rattle.state_rows.specs.declared.locks.Unlocked.{Unlocked}
 use Rattle.state_rows.specs.declared.locks.Unlocked.TheVariants.{Level, Freed, Passed, NotOwner}
 use Rattle.state_rows.specs.declared.thread.Waiting.TheVariants as waiting
-use Rattle.std.proofs.Common.{Bool, None, Option, Some, ap, arith, false, refl, true, ℕ, ◌∙◌, ◌∷◌, ◌≡◌}
+use Rattle.std.proofs.Common.{Bool, None, Option, Some, ap, arith, false, refl, sym, true, ℕ, ◌∙◌, ◌∷◌, ◌≡◌}
 use Rattle.std.specs.Prelude.{is_some, if◌then◌else◌, nat_lt, ◌==◌}
 use Rattle.script_types.specs.declared.instruction.Instr.{Instr}
 use Rattle.script_types.specs.declared.script.Script.{Script}
@@ -38,6 +38,8 @@ use Rattle.sym_base.specs.declared.word.Word.{Word}
 use Rattle.machine.specs.Decide.{wait_at}
 use Rattle.machine.specs.Moves.{with_part, perform, with_waiting}
 use Rattle.machine_laws.proofs.Fitting.Actions.{FitsAction}
+use Rattle.machine.specs.Fits.{IsLive}
+use Rattle.state_rows.specs.declared.thread.Stage.TheVariants.{Live}
 use Rattle.machine.specs.ThreadCalls.{is_live}
 use Rattle.machine.specs.SemaphoreCalls.{wait_do, signal_by, signal_do, wait_on}
 use Rattle.machine.specs.MutexCalls.{lock_by, lock_do, unlock_by, unlock_do, unless_server}
@@ -182,13 +184,16 @@ module _ (script : Script) (S : State) (t : ObjNo) (old : ThreadRow) (here : thr
         came = λ o is used. absurd (cc);
       }
 
-  pub flocks : {k : Kinds} (f : ℕ) → FitsAction k script S t (flock_step S t f None) → Comes (instr.Flock f) None (flock_step S t f None)
-  flocks f fits =
+  pub flocks : {k : Kinds} (f : ℕ) → old.stage ≡ Live → FitsAction k script S t (flock_step S t f None) → Comes (instr.Flock f) None (flock_step S t f None)
+  flocks f live fits =
       tests script S t old here rows (is_some (held_by S.synchronization.nano t)) word.Flock part.Do InUse
       (flock_do S t f) (λ no h. either script S t old here rows (is_free S.synchronization.nano f) _ _
-      (answers _ refl refl (refl, (tt, tt))) (goes part.Done refl refl refl (tt, (refl, tt))
+      (answers _ refl refl (refl, (tt, tt))) (goes part.Done refl refl refl (tt, ((refl, lives, refl), tt))
       (on-one script S t old here rows (instr.Flock f) part.Done (with_part part.Done) refl (λ needs. absurd (cc))
       (λ own had asked. wants-one f)))) fits
+    where
+      lives : IsLive S t
+      lives row is = let both : Some old ≡ Some row = sym here ∙ is in let same : old ≡ row = cc in ap (λ (r : ThreadRow). r.stage) (sym same) ∙ live
 
   pub flocked : (f : ℕ) (want : Option ℕ) → want_of S.synchronization.nano t ≡ want → Comes (instr.Flock f) (Some part.Done) (flock_done t want)
   flocked f None e = idles (unwanted refl e) refl

@@ -1,6 +1,6 @@
 -- What each way in which steps that send, receive and copy decide comes to.
 use Rattle.machine_safe.proofs.Serving.Course.{IsMet, Met, asks}
-use Rattle.machine_safe.proofs.Serving.Proper.{AreProper, IsTaking, MayHave, proper-any, proper-then, receiving, stepping}
+use Rattle.machine_safe.proofs.Serving.Proper.{AreProper, IsTaking, MayHave, posted, proper-any, proper-then, receiving, stepping}
 use Rattle.machine_safe.proofs.Serving.ProperLists.{handle-holder, made-in-thread, open-accepts, proper-wake}
 use Rattle.machine_safe.proofs.Serving.ProperGiving.{proper-finish}
 use Rattle.machine.specs.declared.moves.Move.TheVariants.{Advance}
@@ -43,7 +43,8 @@ use Rattle.entry_log.specs.declared.step.Step.TheVariants.{Of}
 use Rattle.state_rows.specs.Requests.{is_pending, reply_of}
 use Rattle.machine.specs.SessionCalls.{send_to, send_do, call_to, call_do, make_session, connect_to, connect_make, send_connect, connect_send, connect_done, session_made}
 use Rattle.state_rows.specs.MessageRows.{is_full}
-use Rattle.machine.specs.Messaging.{slots_of, open_server}
+use Rattle.machine.specs.Messaging.{slots_of, open_server, server_to_open}
+use Rattle.machine_safe.proofs.Serving.Sending.{to-open-is}
 use Rattle.sym_base.specs.declared.kind.Arg.{Arg}
 use Rattle.script_types.specs.declared.instruction.Args.{Args}
 use Rattle.machine.specs.Fits.{EachFits}
@@ -87,8 +88,8 @@ module _ (script : Script) (S : State) (t : ObjNo) (old : ThreadRow) (here : thr
           refl,
           (
             open-accepts S s o opens,
-            proper-then script (Some t, S, Some o) (wake_receiver S o (owner_of S.serving.servers o)) (Advance t ∷ []) refl
-                (proper-any script t S (Some o) _ (proper-wake script S o (owner_of S.serving.servers o))) (tt, tt),
+            proper-then script (Some t, S, Some (posted o)) (wake_receiver S o (owner_of S.serving.servers o)) (Advance t ∷ []) refl
+                (proper-any script t S (Some (posted o)) _ (proper-wake script S o (owner_of S.serving.servers o))) (tt, tt),
           ),
         ),
       ))
@@ -134,7 +135,7 @@ module _ (script : Script) (S : State) (t : ObjNo) (old : ThreadRow) (here : thr
           refl,
           (
             open-accepts S s o opens,
-            proper-any script t S (Some o) _
+            proper-any script t S (Some (posted o)) _
                 (proper-wake script S o (owner_of S.serving.servers o)),
           ),
         ),
@@ -233,7 +234,7 @@ module _ (script : Script) (S : State) (t : ObjNo) (old : ThreadRow) (here : thr
       let own : MayHave (stepping S t) handle.holder (next_object S) =
       subst (λ (h : Holder). MayHave (stepping S t) h (next_object S))
       (sym (handle-holder true (InThread t) (table_of S t) handle is)) (inr (refl, refl)) in
-      answers _ refl refl ((refl, refl, refl), ((refl, refl), (own, (tt, (tt, tt)))))
+      answers _ refl refl ((refl, refl, refl), (((refl, refl), omega arith, λ session. absurd (cc)), (own, (tt, (tt, tt)))))
 
   module _ (name : List ℕ) (slots : Slots) (x : ℕ) where
     abbrev pub connects-as : Instr
@@ -243,7 +244,7 @@ module _ (script : Script) (S : State) (t : ObjNo) (old : ThreadRow) (here : thr
         → Comes connects-as (Some part.Make) (make_session t o slots (next_object S) handle)
     joins o None is = answers _ refl refl (tt, tt)
     joins o (Some handle) is = goes part.Send refl refl refl
-        (made-in-thread (stepping S t) S t kind.Session handle refl refl is, (refl, (tt, (tt, (tt, tt)))))
+        ((made-in-thread (stepping S t) S t kind.Session handle refl refl is, omega arith, λ session. refl), (refl, (tt, (tt, (tt, tt)))))
         (λ row at later. record {
           part = part-after _ t (with_part part.Send) (Some part.Send) (λ r. refl) row at;
           uses = λ needs. absurd (cc);
@@ -261,7 +262,7 @@ module _ (script : Script) (S : State) (t : ObjNo) (old : ThreadRow) (here : thr
     makes-at None e = idles (unused refl e) refl
     makes-at (Some o) e = makes o (server_at S.serving.servers o) e refl
 
-    pub connects-to : {k : Kinds} (s : ObjNo) (server : Option ObjNo) → open_server S s ≡ server
+    pub connects-to : {k : Kinds} (s : ObjNo) (server : Option ObjNo) → server_to_open S s ≡ server
         → FitsAction k script S t (send_connect S t old s server)
         → Comes connects-as (Some part.Send) (send_connect S t old s server)
     connects-to s None opens fits = answers _ refl refl (tt, (tt, tt))
@@ -274,8 +275,8 @@ module _ (script : Script) (S : State) (t : ObjNo) (old : ThreadRow) (here : thr
             (
               refl,
               (
-                open-accepts S s o opens,
-                proper-any script t S (Some o) _ (proper-wake script S o (owner_of S.serving.servers o)),
+                open-accepts S s o (to-open-is S s o opens),
+                proper-any script t S (Some (posted o)) _ (proper-wake script S o (owner_of S.serving.servers o)),
               ),
             ),
           ),
@@ -286,8 +287,8 @@ module _ (script : Script) (S : State) (t : ObjNo) (old : ThreadRow) (here : thr
         → Comes connects-as (Some part.Send) (connect_send S t old session)
     connects-over None e fits = idles (unkept refl e) refl
     connects-over (Some s) e fits = tests script S t old here rows
-        (is_some (held_by S.synchronization.nano t)) word.Connect part.Send InUse (send_connect S t old s (open_server S s))
-        (λ no f. connects-to s (open_server S s) refl f) fits
+        (is_some (held_by S.synchronization.nano t)) word.Connect part.Send InUse (send_connect S t old s (server_to_open S s))
+        (λ no f. connects-to s (server_to_open S s) refl f) fits
 
     pub connected : (session : Option ObjNo) → session_made S t old ≡ session → Comes connects-as (Some part.Done) (connect_done S t old x session)
     connected None e = idles (unkept refl e) refl

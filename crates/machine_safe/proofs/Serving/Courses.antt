@@ -2,7 +2,7 @@
 use Rattle.machine_safe.proofs.Serving.CourseBlocks.{in-process, in-thread, may-resume, may-set, may-suspend, on-one, tests, either, looks, seeks, on-thread, exit-on, types, second, opened, creates, closes, queues, cancels, logs}
 use Rattle.machine_safe.proofs.Serving.CourseLocks.{waits-for, locks, unlocks, waits, signals, flocks, flocked, signals-found}
 use Rattle.machine_safe.proofs.Serving.CourseServing.{sends, calls-over, receives, receives-last, completes, functions, makes-server, makes-at, connects-over, connected, reads, writes}
-use Rattle.machine_safe.proofs.Serving.Course.{IsMet, IsOfKind}
+use Rattle.machine_safe.proofs.Serving.Course.{FoundOf, IsMet, IsOfKind}
 use Rattle.machine.specs.declared.moves.Move.TheVariants.{Advance}
 use Rattle.machine.specs.Dooms.{doom_where, noted_of, killed}
 use Rattle.machine.specs.CriticalSection.{is_unprotected}
@@ -15,7 +15,9 @@ use Rattle.sym_base.specs.declared.error.Error.TheVariants.{InUse, Overflow, Gen
 use Rattle.sym_base.specs.declared.word.Word.TheVariants as word
 use Rattle.state_rows.specs.declared.thread.Waiting.TheVariants as waiting
 use Rattle.machine_safe.proofs.Serving.Later.{part-after}
-use Rattle.std.proofs.Common.{Bool, None, Option, Some, false, refl, subst, true, ℕ, ◌∷◌, ◌≡◌, []}
+use Rattle.state_rows.specs.declared.object.ObjectRow.{ObjectRow}
+use Rattle.std.proofs.Common.{Bool, None, Option, Some, ap, false, not, refl, subst, sym, true, ℕ, ◌∙◌, ◌∷◌, ◌≡◌, []}
+use Rattle.std.proofs.lemmas.Bool.{and_parts, eqb-true}
 use Rattle.std.specs.Prelude.{is_some, slice_index, ◌==◌, ◌||◌, ◌+◌, nat_lt, pos}
 use Rattle.script_types.specs.declared.instruction.Instr.{Instr}
 use Rattle.script_types.specs.declared.script.Script.{Script}
@@ -72,9 +74,9 @@ module _ (script : Script) (S : State) (t : ObjNo) (old : ThreadRow) (here : thr
   pub course : {k : Kinds} (i : Instr) (p : Option Part) → old.stage ≡ Live → instruction script old ≡ Some i
       → old.part ≡ p → FitsAction k script S t (step_of script S t old i p) → is_returning p ≡ false
       → Course script S t old i p (step_of script S t old i p)
-  course (instr.CreateMutex name x) None live listed stands fits back = creates script S t old here rows kind.Mutex name None x refl refl
+  course (instr.CreateMutex name x) None live listed stands fits back = creates script S t old here rows kind.Mutex name None x refl refl refl
   course (instr.CreateSemaphore name count x) None live listed stands fits back =
-      creates script S t old here rows kind.Semaphore name (Some (Start (next_object S) count)) x refl refl
+      creates script S t old here rows kind.Semaphore name (Some (Start (next_object S) count)) x refl refl refl
   course (instr.Open kind name x) None live listed stands fits back =
       tests script S t old here rows held word.Open part.Seek InUse (seek S t word.Open kind name)
       (λ no f. seeks script S t old here rows word.Open (find_object S kind name) refl refl
@@ -106,7 +108,7 @@ module _ (script : Script) (S : State) (t : ObjNo) (old : ThreadRow) (here : thr
       looks script S t old here rows word.Signal (of_kind S kind.Semaphore (named x)) refl
       (λ names o e asked. absurd (cc))
   course (instr.Signal x) (Some part.Do) live listed stands fits back = signals script S t old here rows old.uses refl refl
-  course (instr.Flock f) None live listed stands fits back = flocks script S t old here rows f fits
+  course (instr.Flock f) None live listed stands fits back = flocks script S t old here rows f live fits
   course (instr.Flock f) (Some part.Done) live listed stands fits back = flocked script S t old here rows f (want_of S.synchronization.nano t) refl
   course (instr.Funlock f) None live listed stands fits back =
       either script S t old here rows (is_holder S.synchronization.nano t f) _ _
@@ -214,7 +216,7 @@ module _ (script : Script) (S : State) (t : ObjNo) (old : ThreadRow) (here : thr
       tests script S t old here rows (is_pending S.synchronization.requests t y) word.Send part.Look InUse
       (look_kind S t old kind.Session word.Send x)
       (λ no f. looks script S t old here rows word.Send (of_kind S kind.Session (named x)) refl
-      (asks-send script S t old rows x function y args (of_kind S kind.Session (named x)) no)) fits
+      (asks-send script S t old rows x function y args (named x) no)) fits
   course (instr.Send x function y args) (Some part.Do) live listed stands fits back =
       sends script S t old here rows x function y args (pos function) (args_of args) old.uses refl
   course (instr.Call x function args) None live listed stands fits back =
@@ -250,32 +252,49 @@ module _ (script : Script) (S : State) (t : ObjNo) (old : ThreadRow) (here : thr
   missed w o false = comes refl (tt, tt) (λ row is. part-after S.references.threads t with_missed None (λ r. refl) row is)
 
   returns-to : {i : Instr} {p : Option Part} (w : Word) (to : Part) → has_step i to ≡ true
-      → (IsMet S t old i p → IsMet (perform t (Open t (found_object old) to ∷ []) S) t
-      (with_opened (found_object old) to old) i (Some to))
+      → (is_open old.sought (object_of S (found_object old)) ≡ true → IsMet S t old i p
+      → IsMet (perform t (Open t (found_object old) to ∷ []) S) t (with_opened (found_object old) to old) i (Some to))
       → Course script S t old i p (return_to S t old w to)
   returns-to {i} {p} w to has met =
-      if_cases (Course script S t old i p) (is_open (object_of S (found_object old)))
+      if_cases (Course script S t old i p) (is_open old.sought (object_of S (found_object old)))
       (one_move (Of w part.Return) (Open t (found_object old) to)) (miss t w (found_object old) (is_live old.stage))
-      (λ _. goes to has refl refl (tt, tt) (on-one script S t old here rows i to
-      (with_opened (found_object old) to) refl (λ _. refl) (λ own had. met had)))
+      (λ opens. goes to has refl refl (tt, tt) (on-one script S t old here rows i to
+      (with_opened (found_object old) to) refl (λ _. refl) (λ own had. met opens had)))
       (λ _. missed w (found_object old) (is_live old.stage))
 
+  -- what is opened is the object that was found
+  opened-kind : (k : Kind) → is_open old.sought (object_of S (found_object old)) ≡ true → FoundOf S k old.sought (found_object old)
+      → IsOfKind S.references.objects k (found_object old)
+  opened-kind k opens was = by (object_of S (found_object old)) refl opens
+    where
+      by : (x : Option ObjectRow) → object_of S (found_object old) ≡ x → is_open old.sought x ≡ true
+          → IsOfKind S.references.objects k (found_object old)
+      by None at e = absurd (cc)
+      by (Some row) at e =
+          let parts = and_parts (not row.dead) (row.place == old.sought) e in
+          record {
+            there = ap is_some at;
+            kind = λ r is. let same : row ≡ r = cc in was.kind r is (sym (ap (λ (z : ObjectRow). z.place) same) ∙ eqb-true row.place old.sought parts.1);
+          }
+
   pub return-course : (i : Instr) → Course script S t old i (Some part.Return) (return_of S t old i)
-  return-course (instr.Open k name x) = returns-to word.Open part.Do refl (λ had asked. record {
+  return-course (instr.Open k name x) = returns-to word.Open part.Do refl (λ opens had asked. record {
     unset = λ s is. absurd (cc);
     wanted = λ is. absurd (cc);
     used =
         λ j o is used. let own : found_object old ≡ o = cc in let same : k ≡ j = cc in
         subst (λ (z : Kind). IsOfKind S.references.objects z o) same
-        (subst (IsOfKind S.references.objects k) own ((had refl).found k refl));
+        (subst (IsOfKind S.references.objects k) own (opened-kind k opens ((had refl).found k refl)));
     found = λ j is. absurd (cc);
     owned = λ o is used. absurd (cc);
     came = λ o is used. absurd (cc);
   })
-  return-course (instr.Connect name slots x) = returns-to word.Connect part.Make refl (λ had asked. record {
+  return-course (instr.Connect name slots x) = returns-to word.Connect part.Make refl (λ opens had asked. record {
     unset = λ s is. absurd (cc);
     wanted = λ is. absurd (cc);
-    used = λ k o is used. let own : found_object old ≡ o = cc in subst (IsOfKind S.references.objects k) own ((had refl).found k is);
+    used =
+        λ k o is used. let own : found_object old ≡ o = cc in
+        subst (IsOfKind S.references.objects k) own (opened-kind k opens ((had refl).found k is));
     found = λ k is. absurd (cc);
     owned = λ o is used. absurd (cc);
     came = λ o is used. absurd (cc);

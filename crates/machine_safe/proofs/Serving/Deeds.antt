@@ -19,12 +19,14 @@ use Rattle.machine_safe.specs.Sent.{accepts_by, status_by}
 use Rattle.machine_safe.specs.Served.{makes_session}
 use Rattle.script_types.specs.declared.instruction.Instr.{Instr}
 use Rattle.state_rows.specs.MessageRows.{message_of, is_async, is_full}
-use Rattle.state_rows.specs.ServerRows.{is_closing, owner_of, server_at, server_of}
+use Rattle.state_rows.specs.ServerRows.{is_closing, owner_of, server_at, server_of, session_at}
+use Rattle.state_rows.specs.declared.thread.Stage.TheVariants.{Live}
 use Rattle.state_rows.specs.declared.messages.Message.{Message}
 use Rattle.state_rows.specs.declared.messages.MsgRow.{MsgRow}
 use Rattle.state_rows.specs.declared.messages.Way.{Way}
 use Rattle.state_rows.specs.declared.messages.Way.TheVariants.{Async, Disconnect, Sync}
 use Rattle.state_rows.specs.declared.servers.ServerRow.{ServerRow}
+use Rattle.state_rows.specs.declared.servers.SessionRow.{SessionRow}
 use Rattle.std.proofs.Common.{Bool, List, None, Option, Some, [], arith, false, true, ℕ, ℤ, ◌++◌, ◌<◌, ◌∷◌, ◌≡◌, pos, ◌⊎◌}
 use Rattle.sym_base.specs.declared.kind.Slots.{Slots}
 use Rattle.sym_base.specs.declared.number.ObjNo.{ObjNo}
@@ -79,7 +81,15 @@ pub record IsSendOver (S : State) (t : ObjNo) (at : Option Instr) (s : ObjNo) : 
   pub here : at_send at ≡ true
   pub row : ThreadRow
   pub is : thread_of S t ≡ Some row
+  pub live : row.stage ≡ Live
+  pub begun : is_some row.part ≡ true
   pub uses : row.uses ≡ Some s
+
+-- what a thread uses at a `send` is a session
+abbrev pub SendsOver : Script → State → Type 0
+SendsOver script S =
+    (u o : ObjNo) (row : ThreadRow) → thread_of S u ≡ Some row → row.stage ≡ Live → at_send (instruction script row) ≡ true
+    → is_some row.part ≡ true → row.uses ≡ Some o → (session : SessionRow) × (session_at S.serving.servers o ≡ Some session)
 
 -- why a `send` is refused: its server is closing, or it isn't and all slots are used
 abbrev pub RefusedBy : State → ObjNo → Option ℤ → Type 0

@@ -28,11 +28,12 @@ use Rattle.machine_safe.proofs.Serving.Quiet.{IsQuiet, Post, post_of, posts, qui
 use Rattle.machine_safe.proofs.Serving.Reading.{reading}
 use Rattle.machine_safe.proofs.Serving.Sending.{behind-quiet}
 use Rattle.machine_safe.proofs.Serving.Served.{served-made}
-use Rattle.machine_safe.proofs.Serving.Turns.{closing-told-by, Book, IsTurn, entry_for, served-doing}
+use Rattle.machine_safe.proofs.Serving.Turns.{closing-told-by, Book, IsTurn, entry_for, served-doing, unmade-by, unrenewed}
 use Rattle.machine_safe.specs.CountAfter.{effects_of}
 use Rattle.machine_safe.specs.SafeDeaths.{dooms}
 use Rattle.machine_safe.specs.SafeMessages.{IsFinish, code_by, notice}
 use Rattle.machine_safe.specs.Sent.{accepts, finishes, instruction_in, status_by}
+use Rattle.machine_safe.specs.Served.{owner_in}
 use Rattle.move_laws.proofs.Lists.Contents.{contains_behind, contains_cases, contains_first, found_there, none_contained}
 use Rattle.move_laws.proofs.Lists.Totals.{total-append}
 use Rattle.move_laws.proofs.MoveLaws.RowMoves.{silent}
@@ -51,7 +52,6 @@ use Rattle.std.proofs.lemmas.Bool.{eq-eqb, eqb-true, le-ltb, lt-ltb}
 use Rattle.std.specs.Prelude.{Contains, filter, if◌then◌else◌, is_some, nat_lt, not, option_map, ◌==◌}
 use Rattle.sym_base.specs.declared.number.MsgNo.{MsgNo}
 use Rattle.sym_base.specs.declared.number.ObjNo.{ObjNo}
-use Rattle.machine_safe.proofs.Serving.Since.{fresh-on}
 use Rattle.machine_safe.proofs.Serving.Slots.{over, over-less, slotted-keeps}
 use Rattle.machine_laws.proofs.Fitting.Regular.{IsRegular, Kinds, plain}
 use Rattle.machine_laws.proofs.Fitting.Finishing.{tame-refused, tame-reply_to}
@@ -216,12 +216,11 @@ module _ (script : Script) (before : List Entry) (S : State) (place : ℕ) (t : 
       letters = letters-less script before S T e book.letters (λ p among. keeps.unlinked p.session) post among
           (λ x there. fewer-posts m.number S.serving.messages.outstanding x (subst (λ (l : List Post). Contains l x) left there))
           (λ x there apart. subst (λ (l : List Post). Contains l x) (sym left) (other-posts m.number S.serving.messages.outstanding x there apart))
-          same_accepted (ap accepts told ∙ (notice-silent _ _ _ _).0) finishes_it keeps.unended
+          same_accepted (ap accepts told ∙ (notice-silent _ _ _ _).0) finishes_it keeps.unended unmade
           (rows.serving.messages.given m found) (ap over left ∙ over-less m.number S.serving.messages.outstanding);
       slotted =
           slotted-keeps script before e S T book.slotted keeps.unlinked keeps.slots
           (ap (λ (l : List Move). pool_of (perform t l S)) is.moves ∙ quiet.pool);
-      fresh = fresh-on before e book.fresh (λ makes. keeps.unowned (regular.making makes));
     };
     lawful = record {
       acceptance =
@@ -232,6 +231,7 @@ module _ (script : Script) (before : List Entry) (S : State) (place : ℕ) (t : 
           let own : m.number ≡ n = number_is n (omega arith) in
           subst (IsFinish script before e) own lawful_finish;
       end = λ v some. let a = keeps.unended v in absurd (omega arith);
+      renewed = unrenewed before e unmade;
       send = λ sends. let unsent = is.unsent in absurd (cc);
     };
   }
@@ -283,6 +283,9 @@ module _ (script : Script) (before : List Entry) (S : State) (place : ℕ) (t : 
 
       keeps : Keeps S T t d.moves e.effects
       keeps = keeps-doing script S t d.moves does rows (served-made script (reading before) S book.served) changing
+
+      unmade : (v : ObjNo) → owner_in (e ∷ []) v ≡ None
+      unmade = unmade-by e (λ makes. keeps.unowned (regular.making makes))
 
       quiet : IsQuiet (moved t (Messages (Finish is.message.number is.code)) S)
           (perform t rest (moved t (Messages (Finish is.message.number is.code)) S))
@@ -346,6 +349,7 @@ module _ (script : Script) (before : List Entry) (S : State) (place : ℕ) (t : 
             once = known.unfinished;
             server = is.message.row.server;
             linked = known.linked_then;
+            same = known.stays;
             owner = t;
             owns = row.owner ∙ ap Some server.2;
             actor = refl;

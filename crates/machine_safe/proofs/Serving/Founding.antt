@@ -7,7 +7,7 @@ use Rattle.entry_log.specs.declared.entry.Entry.{Entry}
 use Rattle.machine.specs.FitsServers.{MayStartServer}
 use Rattle.machine.specs.Moves.{moved, next_object, perform, tell}
 use Rattle.machine.specs.References.{total}
-use Rattle.machine.specs.WellFormed.{AreRows, IsLiveThread}
+use Rattle.machine.specs.WellFormed.{AreRows}
 use Rattle.machine.specs.declared.decision.Decision.{Decision}
 use Rattle.machine.specs.declared.moves.Move.{Move}
 use Rattle.machine.specs.declared.moves.Move.TheVariants.{Gain, Make, Servers}
@@ -18,27 +18,25 @@ use Rattle.machine_safe.proofs.Serving.Deeds.{IsMaking}
 use Rattle.machine_safe.proofs.Serving.Doing.{Doing, IsGoing, going, going-then, keeps-going, quiet-doing}
 use Rattle.machine_safe.proofs.Serving.Fated.{doom-among, doom-told}
 use Rattle.machine_safe.proofs.Serving.EffectSums.{owner_told-append}
-use Rattle.move_laws.proofs.Lives.LivesMove.{zero_or}
-use Rattle.machine_safe.proofs.Serving.Keeps.{closing-row, Keeps, changing-none, message-none, message_bit, steps_of, detach-none, WasSession, lost-none}
+use Rattle.machine_safe.proofs.Serving.Keeps.{Keeps, changing-none, message-none, message_bit, steps_of, detach-none, WasSession, lost-none}
 use Rattle.machine_safe.proofs.Serving.Kept.{AreMade}
 use Rattle.machine_safe.proofs.Serving.Letters.{letters-quiet}
 use Rattle.machine_safe.proofs.Serving.Making.{served-made_server}
-use Rattle.machine_safe.proofs.Serving.Quiet.{IsQuiet, lost-each}
-use Rattle.machine_safe.proofs.Serving.Reading.{IsSame, further, reading, same-both, same-entry, same-then, closings}
+use Rattle.machine_safe.proofs.Serving.KeptRows.{next-unmade}
+use Rattle.machine_safe.proofs.Serving.Quiet.{IsQuiet, Post, lost-each, posts}
+use Rattle.machine_safe.proofs.Serving.Reading.{IsSame, Unowned, further, reading, same-both, same-entry, same-then}
 use Rattle.machine_safe.proofs.Serving.Served.{Served, served-keeps, served-made, served-same}
-use Rattle.machine_safe.proofs.Serving.Turns.{Book, IsTurn, entry_for, unserving, counts}
-use Rattle.machine_safe.specs.CountAfter.{effects_of}
-use Rattle.machine_safe.specs.SafeDeaths.{dooms}
-use Rattle.machine_safe.specs.Served.{ends, one_if, or_before, owner_in, owner_told, server_told}
+use Rattle.machine_safe.proofs.Serving.Turns.{Book, IsTurn, entry_for, nothing-left, unserving, counts}
+use Rattle.machine_safe.specs.SafeMessages.{NothingLeft}
+use Rattle.machine_safe.specs.Served.{ends, ends_in, one_if, or_before, owner_in, owner_told, server_told}
 use Rattle.script_types.specs.declared.script.Script.{Script}
-use Rattle.std.proofs.Common.{Bool, true, false, refl, List, None, [], ap, arith, subst, sym, ℕ, ◌++◌, ◌+◌, ◌∙◌, ◌∷◌, ◌≡◌, Option, Some, get_or}
-use Rattle.std.specs.Prelude.{if◌then◌else◌, ◌==◌}
+use Rattle.std.proofs.Common.{Bool, true, false, refl, List, None, [], ap, arith, subst, sym, inl, inr, ℕ, ◌++◌, ◌+◌, ◌<◌, ◌∙◌, ◌∷◌, ◌≡◌, Option, Some, get_or}
+use Rattle.std.specs.Prelude.{Contains, if◌then◌else◌, is_some, ◌==◌}
 use Rattle.std.proofs.lemmas.Bool.{eqb-true}
 use Rattle.sym_base.specs.declared.number.ObjNo.{ObjNo}
-use Rattle.machine_safe.proofs.Serving.Since.{fresh-made}
 use Rattle.machine_safe.proofs.Serving.Slots.{slotted-keeps}
 use Rattle.state_rows.proofs.SoundChanges.{set_item}
-use Rattle.state_rows.specs.ServerRows.{server_at, session_at}
+use Rattle.state_rows.specs.ServerRows.{session_at}
 use Rattle.state_rows.specs.declared.servers.SessionRow.{SessionRow}
 use Rattle.machine_laws.proofs.Fitting.Regular.{IsRegular, Kinds}
 
@@ -48,18 +46,17 @@ module _ (script : Script) (before : List Entry) (S : State) (place : ℕ) (t : 
 
   -- a server is made
   pub turn-makes : {k : Kinds} (d : Decision) → IsRegular k script S t d → IsMaking S t d → Doing script S t d.moves
-      → ((u : ObjNo) → IsLiveThread S.references.threads u → dooms (effects_of before) u ≡ 0)
       → IsTurn script before (entry_for place t S d) (perform t d.moves S)
-  turn-makes d regular is does undoomed = record {
+  turn-makes d regular is does = record {
     book = record {
       served =
           served-same script (further (further (reading before) d.step fs (λ k. 0)) d.step gs (steps_of t rest))
           (reading (before ++ e ∷ [])) (perform t d.moves S) same whole;
-      letters = letters-quiet script before S (perform t d.moves S) e book.letters (λ p among. unlinked p.session) q (λ p among. unended p.server);
+      letters = letters-quiet script before S (perform t d.moves S) e book.letters (λ p among. unlinked p.session) q
+          (λ p among. unended p.server) (λ p among. unmade p.server (posted-apart p among));
       slotted = slotted-keeps script before e S (perform t d.moves S) book.slotted unlinked slots q.pool;
-      fresh = fresh-made before e book.fresh untold;
     };
-    lawful = unserving script before e q.accepts q.finishes unended (λ sends. let unsent = is.unsent in absurd (cc));
+    lawful = unserving script before e q.accepts q.finishes unended (λ sends. let unsent = is.unsent in absurd (cc)) renewed;
   }
     where
       o : ObjNo
@@ -98,12 +95,14 @@ module _ (script : Script) (before : List Entry) (S : State) (place : ℕ) (t : 
       first =
           served-made_server script (reading before) S t d.step book.served rows is.name start
           (let a = goes.sane.inside in let b = rows.serving.servers.owned_sized in omega arith) is.makes
-          (undoomed t start.owner)
 
       keeps : Keeps mid (perform t rest mid) t rest gs
       keeps =
           keeps-going script mid t rest middle (served-made script (further (reading before) d.step fs (λ k. 0)) mid first)
           (changing-none rest (let a = is.quiet in omega arith))
+
+      unowned : Unowned d.step gs
+      unowned makes = keeps.unowned (let a = regular.making makes in let b = ap (total mutex_bit) is.moves in omega arith)
 
       whole : Served script (further (further (reading before) d.step fs (λ k. 0)) d.step gs (steps_of t rest)) (perform t d.moves S)
       whole =
@@ -125,7 +124,7 @@ module _ (script : Script) (before : List Entry) (S : State) (place : ℕ) (t : 
       same = same-then _ (further (reading before) d.step e.effects (λ k. 0 + steps_of t rest k)) _
           (subst (λ (l : List Effect). IsSame (further (further (reading before) d.step fs (λ k. 0)) d.step gs
           (steps_of t rest)) (further (reading before) d.step l (λ k. 0 + steps_of t rest k))) (sym told)
-          (same-both (reading before) d.step fs gs (λ k. 0) (steps_of t rest)))
+          (same-both (reading before) d.step fs gs (λ k. 0) (steps_of t rest) unowned))
           (same-entry before e (λ k. 0 + steps_of t rest k)
           (λ k. let a = counts t rest d k (let a = regular.answers in let b = ap (total advance_bit) is.moves in
           omega arith) in omega arith))
@@ -136,21 +135,40 @@ module _ (script : Script) (before : List Entry) (S : State) (place : ℕ) (t : 
           ∙ ap (λ (x : Option ObjNo). or_before x (owner_told fs v))
           (keeps.unowned (let a = regular.making is.makes in let b = ap (total mutex_bit) is.moves in omega arith) v))
 
-      owner-new : (v u : ObjNo) (b : Bool) → (o.0 == v.0) ≡ b → one_if b t ≡ Some u → (o.0 ≡ v.0) × (t ≡ u)
-      owner-new v u true same is = (eqb-true o.0 v.0 same, cc)
-      owner-new v u false same is = absurd (cc)
+      owner-other : (v : ObjNo) (b : Bool) → (o.0 == v.0) ≡ b → (o.0 ≡ v.0 → ⊥) → one_if b t ≡ None
+      owner-other v true same apart = absurd (apart (eqb-true o.0 v.0 same))
+      owner-other v false same apart = refl
 
-      -- nothing is told of the server before
-      untold : (v u : ObjNo) → owner_in (e ∷ []) v ≡ Some u → (closings before v ≡ 0) × (ends (effects_of before) v ≡ 0) × (dooms (effects_of before) u ≡ 0)
-      untold v u owns =
-          let first_owner = ap (λ (b : Bool). if b then owner_told e.effects v else None) is.makes in
-          let new = owner-new v u (o.0 == v.0) refl (sym (owner-told v) ∙ (sym first_owner ∙ owns)) in
-          let at = new.0 in (
-            book.served.unmade v (omega arith),
-            zero_or (ends (effects_of before) v) (λ some. let row = closing-row (server_at S.serving.servers v)
-                (book.served.ended v some) in let below = made v row.0 row.1 in absurd (omega arith)),
-            subst (λ (x : ObjNo). dooms (effects_of before) x ≡ 0) new.1 (undoomed t start.owner),
-          )
+      -- it makes nobody the owner of another
+      unmade : (v : ObjNo) → (o.0 ≡ v.0 → ⊥) → owner_in (e ∷ []) v ≡ None
+      unmade v apart =
+          ap (λ (b : Bool). if b then owner_told e.effects v else None) is.makes ∙ (owner-told v ∙ owner-other v (o.0 == v.0) refl apart)
+
+      -- the server of a message that is outstanding is there
+      posted-apart : (p : Post) → Contains (posts S) p → (o.0 ≡ p.server.0 → ⊥)
+      posted-apart p among at =
+          let known = book.letters.known p among in
+          by (owner_in before p.server) refl known.owned
+        where
+          by : (x : Option ObjNo) → owner_in before p.server ≡ x → is_some x ≡ true → ⊥
+          by None owns some = absurd (cc)
+          by (Some u) owns some = elim (book.served.made u p.server owns) [
+            | inr over ↦ let lasts = (book.letters.known p among).lasts in absurd (omega arith)
+            | inl owned ↦
+                let own = rows.serving.servers.owners u p.server owned in
+                next-unmade S (ap (λ (n : ℕ). is_some (get_or S.references.objects n None)) at ∙ made p.server own.row own.is)
+          ]
+
+      -- a server of its number has ended
+      renewed : (u v : ObjNo) → is_some (owner_in (e ∷ []) v) ≡ true → owner_in before v ≡ Some u → (0 < ends_in before v) × NothingLeft before v
+      renewed u v some owns = elim (book.served.made u v owns) as (λ _. (0 < ends_in before v) × NothingLeft before v) [
+        | inr over ↦ (over, nothing-left script before S book v over)
+        | inl owned ↦
+            let own = rows.serving.servers.owners u v owned in
+            let there = made v own.row own.is in
+            let none = unmade v (λ at. next-unmade S (ap (λ (n : ℕ). is_some (get_or S.references.objects n None)) at ∙ there)) in
+            let gone = ap is_some none in absurd (cc)
+      ]
 
       unlinked : (s : ObjNo) → server_told e.effects s ≡ None
       unlinked s = ap (λ (l : List Effect). server_told l s) told ∙ keeps.unlinked s

@@ -72,7 +72,7 @@ module _ (script : Script) (S : State) (t : ObjNo) (at : Option Instr) (P : Deci
   deed-of shaped rows kept here = each-action script S t P (record {
     plainly = λ d why fits. calm each d (fits.regular.calm refl) (fits.regular.sends refl);
     steps =
-        λ row i is live going e fits. deed-step script S t at P row i row.part fits.regular is live going
+        λ row i is live going e fits. deed-step script S t at P row i row.part fits.regular is live going refl
         (λ keeps. kept t row is live (ap (λ (x : Option Instr). keeps_handle x row.part) e ∙ keeps)) (here row is ∙ e) each;
     returns = λ row i is back e fits. calm each _ (fits.regular.calm refl) (fits.regular.sends refl);
     gives = λ row what given fits. deed-give row what given fits.regular;

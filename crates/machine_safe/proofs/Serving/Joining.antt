@@ -22,10 +22,10 @@ use Rattle.machine_safe.proofs.Serving.Kept.{AreMade, keeps-move}
 use Rattle.machine_safe.proofs.Serving.Letters.{letters-quiet}
 use Rattle.machine_safe.proofs.Serving.Making.{served-joined}
 use Rattle.machine_safe.proofs.Serving.Quiet.{IsQuiet, Post, post_of, posts, lost-each}
-use Rattle.machine_safe.proofs.Serving.Reading.{IsSame, Reading, further, reading, same-both, same-entry, same-then}
+use Rattle.machine_safe.proofs.Serving.Reading.{IsSame, Reading, Unowned, further, reading, same-both, same-entry, same-then}
 use Rattle.machine_safe.proofs.Serving.Served.{Served, served-keeps, served-made, served-same}
-use Rattle.machine_safe.proofs.Serving.Turns.{Book, IsTurn, counts, entry_for, unserving}
-use Rattle.machine_safe.specs.Served.{ends, one_if, or_before, server_told}
+use Rattle.machine_safe.proofs.Serving.Turns.{Book, IsTurn, counts, entry_for, unmade-by, unrenewed, unserving}
+use Rattle.machine_safe.specs.Served.{ends, one_if, or_before, owner_in, server_told}
 use Rattle.move_laws.proofs.Lists.Contents.{contains_map}
 use Rattle.move_laws.proofs.Lives.Fresh.{next_fresh}
 use Rattle.move_laws.proofs.References.Same.{eqb_apart, if_zero}
@@ -33,10 +33,12 @@ use Rattle.script_types.specs.declared.script.Script.{Script}
 use Rattle.state_rows.specs.ServerRows.{server_at, session_at}
 use Rattle.state_rows.specs.declared.messages.Message.{Message}
 use Rattle.state_rows.specs.declared.servers.ServerRow.{ServerRow}
-use Rattle.std.proofs.Common.{Bool, List, None, Option, Some, [], arith, length, refl, sym, true, ℕ, ◌++◌, ◌+◌, ◌∙◌, ◌∷◌, ◌≡◌, ◌≤◌, subst, ap, get_or, get_or-set_other, get_or-set_same, inl, inr, ◌<◌}
+use Rattle.std.proofs.Common.{Bool, List, None, Option, Some, [], arith, length, refl, sym, true, ℕ, ◌++◌, ◌+◌, ◌∙◌, ◌∷◌, ◌≡◌, subst, ap, get_or, get_or-set_other, get_or-set_same, inl, inr, ◌<◌}
 use Rattle.std.specs.Prelude.{Contains, is_some, ◌==◌}
 use Rattle.sym_base.specs.declared.number.ObjNo.{ObjNo}
-use Rattle.machine_safe.proofs.Serving.Since.{fresh-on}
+use Rattle.machine.specs.Rows.{object_of}
+use Rattle.machine_safe.proofs.Serving.KeptRows.{next-unmade}
+use Rattle.move_laws.proofs.Lives.Bits.{alive_there, there_inside}
 use Rattle.machine_safe.proofs.Serving.Slots.{link-made, links-told, slots-joined, slots-kept}
 use Rattle.machine_safe.specs.Sent.{instruction_in}
 use Rattle.machine_safe.specs.Slotted.{slots_in}
@@ -45,12 +47,13 @@ use Rattle.state_rows.specs.declared.servers.SessionRow.{SessionRow}
 use Rattle.std.proofs.lemmas.Bool.{cases_eq, eq-eqb}
 use Rattle.machine_laws.proofs.Fitting.Regular.{IsRegular, Kinds}
 
-no-server : (S : State) (o : ObjNo) → AreMade S → length S.references.objects ≤ o.0 → server_at S.serving.servers o ≡ None
-no-server S o made past = by (server_at S.serving.servers o) refl
+-- what is made next is no server
+no-server : (S : State) → AreMade S → server_at S.serving.servers (next_object S) ≡ None
+no-server S made = by (server_at S.serving.servers (next_object S)) refl
   where
-    by : (x : Option ServerRow) → server_at S.serving.servers o ≡ x → x ≡ None
+    by : (x : Option ServerRow) → server_at S.serving.servers (next_object S) ≡ x → x ≡ None
     by None e = refl
-    by (Some row) e = let below = made o row e in absurd (omega arith)
+    by (Some row) e = absurd (next-unmade S (made (next_object S) row e))
 
 module _ (script : Script) (before : List Entry) (S : State) (place : ℕ) (t : ObjNo) (rows : AreRows script S) (book : Book script before S) where
   made : AreMade S
@@ -66,19 +69,21 @@ module _ (script : Script) (before : List Entry) (S : State) (place : ℕ) (t : 
   turn-joins d regular is does = record {
     book = record {
       served = served-same script _ (reading (before ++ e ∷ [])) (perform t d.moves S) same whole;
-      letters = letters-quiet script before S (perform t d.moves S) e book.letters unlinked q (λ p among. unended p.server);
+      letters = letters-quiet script before S (perform t d.moves S) e book.letters unlinked q (λ p among. unended p.server) (λ p among. unmade p.server);
       slotted = record {
         sessions = slots;
         pool = q.pool ∙ book.slotted.pool;
         servers = λ s. links-told before e s (book.slotted.servers s) (link-made e s is.joins);
       };
-      fresh = fresh-on before e book.fresh (λ makes. let none = is.makes in absurd (cc));
     };
-    lawful = unserving script before e q.accepts q.finishes unended (λ sends. let unsent = is.unsent in absurd (cc));
+    lawful = unserving script before e q.accepts q.finishes unended (λ sends. let unsent = is.unsent in absurd (cc)) (unrenewed before e unmade);
   }
     where
       e : Entry
       e = entry_for place t S d
+
+      unmade : (v : ObjNo) → owner_in (e ∷ []) v ≡ None
+      unmade = unmade-by e (λ makes. let none = is.makes in absurd (cc))
 
       one : Move
       one = Make kind.Session [] is.holder
@@ -129,7 +134,7 @@ module _ (script : Script) (before : List Entry) (S : State) (place : ℕ) (t : 
       served2 : Served script r2 mid
       served2 =
           served-joined script r1 T t d.step served1 later.sane.rows (next_object S) is.server is.slots later.each.0
-          (no-server S (next_object S) made (omega arith)) is.makes
+          (no-server S made) is.makes is.joins
 
       keeps : Keeps mid (perform t is.back mid) t is.back gs
       keeps = keeps-going script mid t is.back last (served-made script r2 mid served2) (changing-none is.back is.quiet)
@@ -149,17 +154,20 @@ module _ (script : Script) (before : List Entry) (S : State) (place : ℕ) (t : 
       told_all : e.effects ≡ fs ++ (hs ++ gs)
       told_all = ap (λ (l : List Move). tell t l S) is.moves
 
+      unowned : (es : List Effect) → Unowned d.step es
+      unowned es makes = let none = is.makes in absurd (cc)
+
       same : IsSame r3 (reading (before ++ e ∷ []))
       same =
           same-then r3 (further r1 d.step (hs ++ gs) (λ k. 0 + steps_of t is.back k)) (reading (before ++ e ∷ []))
-          (same-both r1 d.step hs gs (λ k. 0) (steps_of t is.back))
+          (same-both r1 d.step hs gs (λ k. 0) (steps_of t is.back) (unowned gs))
           (same-then (further r1 d.step (hs ++ gs) (λ k. 0 + steps_of t is.back k))
           (further (reading before) d.step e.effects (λ k. steps_of t (one ∷ []) k + (0 + steps_of t is.back k)))
           (reading (before ++ e ∷ []))
           (subst (λ (l : List Effect). IsSame (further r1 d.step (hs ++ gs) (λ k. 0 + steps_of t is.back k))
           (further (reading before) d.step l (λ k. steps_of t (one ∷ []) k + (0 + steps_of t is.back k))))
           (sym told_all) (same-both (reading before) d.step fs (hs ++ gs) (steps_of t (one ∷ []))
-          (λ k. 0 + steps_of t is.back k)))
+          (λ k. 0 + steps_of t is.back k) (unowned (hs ++ gs))))
           (same-entry before e (λ k. steps_of t (one ∷ []) k + (0 + steps_of t is.back k))
           (λ k. let a = counts t is.back d k (let b = regular.answers in let c = ap (total advance_bit) is.moves in
           omega arith) in let none = if_zero (t.0 == k) (total advance_bit (one ∷ [])) refl in omega arith)))
@@ -193,7 +201,7 @@ module _ (script : Script) (before : List Entry) (S : State) (place : ℕ) (t : 
 
       session_room : (next_object S).0 < length T.serving.servers.sessions
       session_room =
-          let a = later.each.0.made in
+          let a = there_inside T.references.objects (next_object S).0 (alive_there (object_of T (next_object S)) later.each.0.alive) in
           let b = later.sane.rows.references.sized.objects_few in
           let c = later.sane.rows.serving.servers.sessions_sized in
           omega arith

@@ -1,5 +1,5 @@
 -- What the moves of an action leave of servers and sessions, where none of them makes or ends a server, closes its handle, or joins a session.
-use Rattle.std.proofs.Common.{◌≡◌, inl, inr, ℕ, ◌+◌, ◌<◌, ◌≤◌, List, [], ◌∷◌, ◌++◌, length, arith, refl, sym, ap, subst, ◌∙◌, Option, Some, None, Bool, true, false, get_or, ◌⊎◌}
+use Rattle.std.proofs.Common.{◌≡◌, inl, inr, ℕ, ◌+◌, ◌<◌, ◌≤◌, List, [], ◌∷◌, ◌++◌, arith, refl, sym, ap, subst, ◌∙◌, Option, Some, None, Bool, true, false, get_or, ◌⊎◌}
 use Rattle.std.specs.Prelude.{◌==◌, if◌then◌else◌, is_some}
 use Rattle.sym_base.specs.declared.number.ObjNo.{ObjNo}
 use Rattle.entry_log.specs.declared.effect.Effect.{Effect}
@@ -7,16 +7,16 @@ use Rattle.entry_log.specs.declared.effect.Holder.TheVariants.{Own, Link, Temp}
 use Rattle.state_rows.specs.declared.servers.ServerRow.{ServerRow}
 use Rattle.state_rows.specs.declared.servers.ServerRows.{ServerRows}
 use Rattle.state_rows.specs.declared.thread.ThreadRow.{ThreadRow}
-use Rattle.state_rows.specs.ServerRows.{server_at, server_of, is_closing, closes, session_at}
+use Rattle.state_rows.specs.ServerRows.{server_at, server_of, closes, session_at}
 use Rattle.machine.specs.declared.moves.Move.{Move}
 use Rattle.machine.specs.declared.moves.Move.TheVariants.{Lose, Servers, Messages}
 use Rattle.machine.specs.declared.message_move.MessageMove.TheVariants.{Take}
 use Rattle.machine.specs.declared.server_move.ServerMove.TheVariants.{CloseAll, SetOpen}
 use Rattle.machine.specs.declared.state.State.{State}
 use Rattle.machine.specs.References.{same, total}
-use Rattle.machine_safe.specs.Served.{ends, owner_told, server_told, or_before, handles_lost}
+use Rattle.machine_safe.specs.Served.{ends, owner_told, server_told, or_before}
 use Rattle.machine_laws.proofs.Fitting.Regular.{advance_bit, closed_bit, mutex_bit, serving_bit, doomed_bit}
-use Rattle.machine_safe.proofs.Serving.EffectSums.{ends-append, owner_told-append, server_told-append, handles_lost-append}
+use Rattle.machine_safe.proofs.Serving.EffectSums.{ends-append, owner_told-append, server_told-append}
 use Rattle.move_laws.proofs.References.Same.{if_zero}
 use Rattle.machine.specs.Serving.{times_owned}
 use Rattle.std.proofs.lemmas.Bool.{cases_lt}
@@ -136,38 +136,35 @@ steps-then t m ms k = by (t.0 == k)
     by false = refl
 
 -- Servers keep their owners, and begin to close only with their owner's doom; nobody is linked to another; threads go on by their own instructions; and
--- no link, no end and, but for mutexes, no ownership is told, nor a handle of what isn't made.
+-- no link, no end and, but for mutexes, no ownership is told.
 pub record Keeps (S T : State) (t : ObjNo) (ms : List Move) (effects : List Effect) : Type 0 where
   pub servers : (o : ObjNo) (row : ServerRow) → server_at T.serving.servers o ≡ Some row → WasServer S.serving.servers ms o row
-  pub there : (o : ObjNo) → is_some (server_at S.serving.servers o) ≡ true → is_some (server_at T.serving.servers o) ≡ true
   pub links : (s o : ObjNo) → server_of T.serving.servers s ≡ Some o → server_of S.serving.servers s ≡ Some o
   pub owned : T.serving.owned ≡ S.serving.owned
-  pub doomed : (u o : ObjNo) → 0 < total (doomed_bit u) ms → 0 < times_owned T.serving.owned u o → is_closing T.serving.servers o ≡ true
-  pub objects : length S.references.objects ≤ length T.references.objects
-  pub alive : (o : ObjNo) → o.0 < length S.references.objects → IsAlive (object_of T o) → IsAlive (object_of S o)
+  pub doomed : (u o : ObjNo) (row : ServerRow) → 0 < total (doomed_bit u) ms → 0 < times_owned T.serving.owned u o
+      → server_at T.serving.servers o ≡ Some row → row.is_closing ≡ true
+  pub objects : (o : ObjNo) (row : ServerRow) → server_at T.serving.servers o ≡ Some row → is_some (object_of S o) ≡ true → is_some (object_of T o) ≡ true
+  pub alive : (s : ObjNo) (row : SessionRow) → session_at T.serving.servers s ≡ Some row → IsAlive (object_of T s) → IsAlive (object_of S s)
   pub slots : (s : ObjNo) (row : SessionRow) → session_at T.serving.servers s ≡ Some row → WasSession S.serving.servers s row
-  pub linked : (s v : ObjNo) → s.0 < length S.references.objects → server_of S.serving.servers s ≡ Some v → StillLinked T ms s v
+  pub linked : (s v : ObjNo) (row : SessionRow) → session_at T.serving.servers s ≡ Some row → server_of S.serving.servers s ≡ Some v → StillLinked T ms s v
   pub threads : (k : ℕ) (row : ThreadRow) → get_or T.references.threads k None ≡ Some row → WasAt S.references.threads k (steps_of t ms k) row
   pub unlinked : (s : ObjNo) → server_told effects s ≡ None
   pub unended : (v : ObjNo) → ends effects v ≡ 0
-  pub lost : (v : ObjNo) → length T.references.objects ≤ v.0 → handles_lost effects v ≡ 0
   pub unowned : total mutex_bit ms ≡ 0 → (v : ObjNo) → owner_told effects v ≡ None
 
 pub keeps-none : (S : State) (t : ObjNo) → Keeps S S t [] []
 keeps-none S t = record {
   servers = λ o row is. record { old = row; was = is; owner = refl; still = λ e. e; began = λ e not. absurd (cc) };
-  there = λ o is. is;
   links = λ s o is. is;
   owned = refl;
-  doomed = λ u o some owned. absurd (omega arith);
-  objects = omega arith;
-  alive = λ o made is. is;
+  doomed = λ u o row some owned is. absurd (omega arith);
+  objects = λ o row is some. some;
+  alive = λ s row is alive. alive;
   slots = λ s row is. record { old = row; was = is; slots = refl };
-  linked = λ s v made is. inl is;
+  linked = λ s v row there is. inl is;
   threads = λ k row is. record { old = row; was = is; role = refl; place = let a = if_zero (t.0 == k) 0 refl in omega arith };
   unlinked = λ s. refl;
   unended = λ v. refl;
-  lost = λ v past. refl;
   unowned = λ none v. refl;
 }
 
@@ -183,16 +180,6 @@ pub there-row : (x : Option ServerRow) → is_some x ≡ true → (row : ServerR
 there-row None is = absurd (cc)
 there-row (Some row) is = (row, refl)
 
-pub keeps-closing : (S T : State) (t : ObjNo) (ms : List Move) (effects : List Effect) (o : ObjNo)
-    → Keeps S T t ms effects → is_closing S.serving.servers o ≡ true → is_closing T.serving.servers o ≡ true
-keeps-closing S T t ms effects o h is =
-    let first = closing-row (server_at S.serving.servers o) is in
-    let now = there-row (server_at T.serving.servers o) (h.there o (ap is_some first.1)) in
-    let was = h.servers o now.0 now.1 in
-    let both : Some first.0 ≡ Some was.old = sym first.1 ∙ was.was in
-    let own : first.0 ≡ was.old = cc in
-    ap closes now.1 ∙ was.still (sym (ap (λ (z : ServerRow). z.is_closing) own) ∙ first.2)
-
 pub keeps-then : (S T U : State) (t : ObjNo) (m : Move) (ms : List Move) (es fs : List Effect) → Keeps S T t (m ∷ []) es
     → Keeps T U t ms fs → Keeps S U t (m ∷ ms) (es ++ fs)
 keeps-then S T U t m ms es fs h g = record {
@@ -206,20 +193,21 @@ keeps-then S T U t m ms es fs h g = record {
         still = λ e. two.still (one.still e);
         began = λ e not. by o row two one e not two.old.is_closing refl;
       };
-  there = λ o is. g.there o (h.there o is);
   links = λ s o is. h.links s o (g.links s o is);
   owned = g.owned ∙ h.owned;
-  doomed = λ u o some owned. elim (cases_lt 0 (total (doomed_bit u) ms)) as (λ _. is_closing U.serving.servers o ≡ true) [
-    | inl later ↦ g.doomed u o later owned
-    | inr none ↦ keeps-closing T U t ms fs o g (h.doomed u o (omega arith) (subst (λ (l : List (List ObjNo)). 0 < times_owned l u o) g.owned owned))
+  doomed = λ u o row some owned is. elim (cases_lt 0 (total (doomed_bit u) ms)) as (λ _. row.is_closing ≡ true) [
+    | inl later ↦ g.doomed u o row later owned is
+    | inr none ↦
+        let two = g.servers o row is in
+        two.still (h.doomed u o two.old (omega arith) (subst (λ (l : List (List ObjNo)). 0 < times_owned l u o) g.owned owned) two.was)
   ];
-  objects = let a = h.objects in let b = g.objects in omega arith;
-  alive = λ o made is. h.alive o made (g.alive o (let a = h.objects in omega arith) is);
+  objects = λ o row is some. let two = g.servers o row is in g.objects o row is (h.objects o two.old two.was some);
+  alive = λ s row is alive. let two = g.slots s row is in h.alive s two.old two.was (g.alive s row is alive);
   slots =
       λ s row is. let two = g.slots s row is in let one = h.slots s two.old two.was in
       record { old = one.old; was = one.was; slots = one.slots ∙ two.slots };
-  linked = λ s v made is. elim (h.linked s v made is) as (λ _. StillLinked U (m ∷ ms) s v) [
-    | inl still ↦ elim (g.linked s v (let a = h.objects in omega arith) still) as (λ _. StillLinked U (m ∷ ms) s v) [
+  linked = λ s v row there is. let two = g.slots s row there in elim (h.linked s v two.old two.was is) as (λ _. StillLinked U (m ∷ ms) s v) [
+    | inl still ↦ elim (g.linked s v row there still) as (λ _. StillLinked U (m ∷ ms) s v) [
       | inl linked ↦ inl linked
       | inr other ↦ elim other as (λ _. StillLinked U (m ∷ ms) s v) [
         | inl dead ↦ inr (inl dead)
@@ -227,7 +215,7 @@ keeps-then S T U t m ms es fs h g = record {
       ]
     ]
     | inr other ↦ elim other as (λ _. StillLinked U (m ∷ ms) s v) [
-      | inl dead ↦ inr (inl (λ alive. dead (g.alive s (let a = h.objects in omega arith) alive)))
+      | inl dead ↦ inr (inl (λ alive. dead (g.alive s row there alive)))
       | inr detached ↦ inr (inr (omega arith))
     ]
   ];
@@ -242,7 +230,6 @@ keeps-then S T U t m ms es fs h g = record {
       };
   unlinked = λ s. server_told-append es fs s ∙ nothing-told (server_told fs s) (server_told es s) (g.unlinked s) (h.unlinked s);
   unended = λ v. let a = ends-append es fs v in let b = h.unended v in let c = g.unended v in omega arith;
-  lost = λ v past. let a = handles_lost-append es fs v in let more = g.objects in let b = h.lost v (omega arith) in let c = g.lost v past in omega arith;
   unowned = λ none v. owner_told-append es fs v ∙ nothing-told (owner_told fs v) (owner_told es v) (g.unowned (omega arith) v) (h.unowned (omega arith) v);
 }
   where

@@ -2,12 +2,13 @@
 use Rattle.state_rows.specs.declared.thread.Waiting.TheVariants as waiting
 use Rattle.entry_log.specs.declared.effect.Holder.{Holder}
 use Rattle.entry_log.specs.declared.effect.Holder.TheVariants.{Link, Own, Temp}
+use Rattle.state_rows.specs.ObjectRows.{dead_row, place_of, with_object}
 use Rattle.machine.specs.DeathMoves.{death_row, death_thread}
 use Rattle.machine.specs.Fits.{FitsMove}
 use Rattle.machine.specs.Moves.{advanced, moved, new_object, next_object, objects_closed, threads_closed, threads_gain, threads_lose, unlinked, with_found, with_kept, with_message, with_missed, with_opened, with_part, with_priority, with_register, with_use, with_waiting}
 use Rattle.machine.specs.References.{mutex_names, total}
 use Rattle.machine.specs.Kept.{dies}
-use Rattle.machine.specs.Rows.{with_row}
+use Rattle.machine.specs.Rows.{object_of, with_row}
 use Rattle.machine.specs.ServerMoves.{all_closing, owned_by, servers_closed, servers_lose}
 use Rattle.machine.specs.WellFormed.{AreRows}
 use Rattle.machine.specs.declared.death_move.DeathMove.{DeathMove}
@@ -19,7 +20,8 @@ use Rattle.machine.specs.declared.state.State.{State}
 use Rattle.machine_laws.proofs.Fitting.Regular.{advance_bit}
 use Rattle.machine_safe.proofs.Serving.Keeps.{WasAt, WasServer, changing_bit, steps_of}
 use Rattle.move_laws.proofs.Holders.ThreadRows.{row-here, row-other}
-use Rattle.move_laws.proofs.Lists.Mapped.{made-here, made-other, mapped-some}
+use Rattle.move_laws.proofs.Lists.Mapped.{made-here, made-other}
+use Rattle.move_laws.proofs.Lives.NewObjects.{made-other as new-other, next_number_is}
 use Rattle.move_laws.proofs.References.Same.{eqb_apart, if_is, if_not, if_zero}
 use Rattle.move_laws.proofs.RowLaws.Threads.{map_some, was_row}
 use Rattle.script_types.specs.declared.script.Script.{Script}
@@ -30,7 +32,7 @@ use Rattle.state_rows.specs.declared.servers.ServerRow.{ServerRow}
 use Rattle.state_rows.specs.declared.servers.ServerRows.{ServerRows}
 use Rattle.state_rows.specs.declared.servers.SessionRow.{SessionRow}
 use Rattle.state_rows.specs.declared.thread.ThreadRow.{ThreadRow}
-use Rattle.std.proofs.Common.{Bool, List, None, Option, Some, [], ap, arith, false, get_or, inl, inr, length, length-append, length-set, refl, sym, true, ℕ, ◌+◌, ◌<◌, ◌∙◌, ◌∷◌, ◌≡◌, ◌≤◌}
+use Rattle.std.proofs.Common.{Bool, List, None, Option, Some, [], ap, arith, false, get_or, inl, inr, length, length-set, refl, sym, true, ℕ, ◌+◌, ◌<◌, ◌∙◌, ◌∷◌, ◌≡◌}
 use Rattle.std.proofs.lemmas.Bool.{cases_eq, eq-eqb}
 use Rattle.std.specs.Prelude.{is_some, option_map, slice_set, ◌==◌}
 use Rattle.sym_base.specs.declared.number.ObjNo.{ObjNo}
@@ -111,23 +113,6 @@ server-move script S t (Servers m) rows fits none o row is = absurd (omega arith
 server-move script S t (Pay what) rows fits none o row is = absurd fits
 server-move script S t m rows fits none o row is = server-same S.serving.servers (m ∷ []) o row is
 
-still-there : (x : ObjNo) (r : ServerRows) (o : ObjNo) → is_some (server_at r o) ≡ true → is_some (server_at (after_closing r x) o) ≡ true
-still-there x r o is = mapped-some closing r.servers x.0 o.0 ∙ is
-
-all-there : (os : List ObjNo) (r : ServerRows) (o : ObjNo) → is_some (server_at r o) ≡ true → is_some (server_at (all_closing os r) o) ≡ true
-all-there [] r o is = is
-all-there (x ∷ xs) r o is = all-there xs (after_closing r x) o (still-there x r o is)
-
-pub there-move : (script : Script) (S : State) (t : ObjNo) (m : Move) → FitsMove script t m S → changing_bit m ≡ 0
-    → (o : ObjNo) → is_some (server_at S.serving.servers o) ≡ true
-    → is_some (server_at (moved t m S).serving.servers o) ≡ true
-there-move script S t (Lose h o) fits none x is = ap (λ (l : List (Option ServerRow)). is_some (get_or l x.0 None)) (lost-servers h S.serving.servers) ∙ is
-there-move script S t (Servers (CloseAll u)) fits none o is = all-there (owned_by S.serving.owned u) S.serving.servers o is
-there-move script S t (Servers (SetOpen s to)) fits none o is = is
-there-move script S t (Servers m) fits none o is = absurd (omega arith)
-there-move script S t (Pay what) fits none o is = absurd fits
-there-move script S t m fits none o is = is
-
 -- a session loses its link, or keeps it
 link-mapped : (f : SessionRow → SessionRow) (sessions : List (Option SessionRow)) (i : ℕ) (s o : ObjNo)
     → ((row : SessionRow) → (f row).server ≡ Some o → row.server ≡ Some o)
@@ -166,11 +151,15 @@ link-move script S t (Servers m) fits none s o is = absurd (omega arith)
 link-move script S t (Pay what) fits none s o is = absurd fits
 link-move script S t m fits none s o is = is
 
+-- the next object isn't made yet
+pub next-unmade : (S : State) → is_some (object_of S (next_object S)) ≡ true → ⊥
+next-unmade S some = let none = ap is_some (next_number_is S.mode.reuse S.references.objects).1 in cc
+
 -- who owns which server
 pub owned-move : (script : Script) (S : State) (t : ObjNo) (m : Move)
-    → ((o : ObjNo) (row : ServerRow) → server_at S.serving.servers o ≡ Some row → o.0 < length S.references.objects)
+    → ((o : ObjNo) (row : ServerRow) → server_at S.serving.servers o ≡ Some row → is_some (object_of S o) ≡ true)
     → FitsMove script t m S → changing_bit m ≡ 0 → (moved t m S).serving.owned ≡ S.serving.owned
-owned-move script S t (Make kind name (Own u)) made fits none = let past = made (next_object S) _ fits.1.server in absurd (omega arith)
+owned-move script S t (Make kind name (Own u)) made fits none = absurd (next-unmade S (made (next_object S) _ fits.1.server))
 owned-move script S t (Make kind name h) made fits none = refl
 owned-move script S t (Lose (Own u) o) made fits none = absurd (omega arith)
 owned-move script S t (Lose h o) made fits none = refl
@@ -178,17 +167,36 @@ owned-move script S t (Servers m) made fits none = refl
 owned-move script S t (Pay what) made fits none = absurd fits
 owned-move script S t m made fits none = refl
 
--- there are no fewer objects
+-- what is there stays there
 pub closed-long : (last : Bool) (o : ObjNo) (objects : List (Option ObjectRow)) → length (objects_closed last o objects) ≡ length objects
 closed-long true o objects = length-set objects o.0 _
 closed-long false o objects = refl
 
-pub objects-move : (script : Script) (S : State) (t : ObjNo) (m : Move) → FitsMove script t m S
-    → length S.references.objects ≤ length (moved t m S).references.objects
-objects-move script S t (Make kind name h) fits = let a = length-append S.references.objects (Some (new_object kind name) ∷ []) in omega arith
-objects-move script S t (Lose h o) fits = let a = closed-long (dies S o) o S.references.objects in omega arith
-objects-move script S t (Pay what) fits = absurd fits
-objects-move script S t m fits = omega arith
+pub objects-closed : (last : Bool) (x o : ObjNo) (objects : List (Option ObjectRow))
+    → is_some (get_or (objects_closed last x objects) o.0 None) ≡ is_some (get_or objects o.0 None)
+objects-closed false x o objects = refl
+objects-closed true x o objects = elim (cases_eq x.0 o.0) as
+    (λ _. is_some (get_or (objects_closed true x objects) o.0 None) ≡ is_some (get_or objects o.0 None)) [
+      | inl at ↦ ap is_some (made-here dead_row None objects x.0 o.0 refl at) ∙ by (get_or objects o.0 None)
+      | inr apart ↦ ap is_some (made-other dead_row None objects x.0 o.0 apart)
+    ]
+  where
+    by : (row : Option ObjectRow) → is_some (dead_row row) ≡ is_some row
+    by None = refl
+    by (Some row) = refl
+
+pub objects-made : (S : State) (row : ObjectRow) (o : ObjNo) → is_some (object_of S o) ≡ true
+    → is_some (get_or (with_object S.references.objects (next_object S).0 row) o.0 None) ≡ true
+objects-made S row o some =
+    ap is_some (new-other S.references.objects (next_object S).0 o.0 row (next_number_is S.mode.reuse S.references.objects).0
+    (λ at. next-unmade S (ap (λ (n : ℕ). is_some (get_or S.references.objects n None)) (sym at) ∙ some))) ∙ some
+
+pub objects-move : (script : Script) (S : State) (t : ObjNo) (m : Move) → FitsMove script t m S → (o : ObjNo)
+    → is_some (object_of S o) ≡ true → is_some (object_of (moved t m S) o) ≡ true
+objects-move script S t (Make kind name h) fits o some = objects-made S (new_object kind name S.references.made) o some
+objects-move script S t (Lose h x) fits o some = objects-closed (dies S x) x o S.references.objects ∙ some
+objects-move script S t (Pay what) fits o some = absurd fits
+objects-move script S t m fits o some = some
 
 -- a row of a thread that changes, but for its role, and goes on by so many instructions
 pub at-same : (threads : List (Option ThreadRow)) (k : ℕ) (row : ThreadRow) → get_or threads k None ≡ Some row → WasAt threads k 0 row
@@ -254,7 +262,7 @@ at-move script S t (Lose h o) fits k row is =
     })
 at-move script S t (Find u o) fits k row is =
     at-steps S.references.threads t (Find u o ∷ []) k row refl
-    (at-with S.references.threads u (with_found o) (λ r. refl) (λ r. refl) k row is)
+    (at-with S.references.threads u (with_found o (place_of (object_of S o))) (λ r. refl) (λ r. refl) k row is)
 at-move script S t (Open u o part) fits k row is =
     at-steps S.references.threads t (Open u o part ∷ []) k row refl
     (at-with S.references.threads u (with_opened o part) (λ r. refl) (λ r. refl) k row is)

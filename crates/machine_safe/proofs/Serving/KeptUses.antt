@@ -1,5 +1,5 @@
 -- What each move leaves of what threads use, of the servers that sessions are at, of their slots, and of who is alive.
-use Rattle.std.proofs.Common.{◌≡◌, ◌⊎◌, inl, inr, Bool, List, None, Option, Some, [], ap, arith, false, get_or, get_or-set_other, length, refl, subst, sym, true, ℕ, ◌<◌, ◌∙◌, ◌∷◌}
+use Rattle.std.proofs.Common.{◌≡◌, ◌⊎◌, inl, inr, Bool, List, None, Option, Some, [], ap, arith, false, get_or, get_or-set_other, refl, subst, sym, true, ℕ, ◌<◌, ◌∙◌, ◌∷◌}
 use Rattle.machine.specs.declared.nano_move.NanoMove.TheVariants as nano
 use Rattle.machine.specs.declared.request_move.RequestMove.TheVariants as request
 use Rattle.machine.specs.declared.death_move.DeathMove.TheVariants as death
@@ -40,7 +40,7 @@ use Rattle.move_laws.proofs.References.Same.{eqb_apart, same_object, same_self}
 use Rattle.move_laws.proofs.RowLaws.Threads.{map_some}
 use Rattle.script_types.specs.declared.script.Script.{Script}
 use Rattle.state_rows.proofs.SoundChanges.{set_item}
-use Rattle.state_rows.specs.ObjectRows.{dead_row}
+use Rattle.state_rows.specs.ObjectRows.{dead_row, place_of}
 use Rattle.state_rows.specs.ServerChanges.{after_closing, detached, opened}
 use Rattle.state_rows.specs.ServerRows.{holds, link_of, server_of, session_at}
 use Rattle.state_rows.specs.declared.locks.Locked.TheVariants.{Taken}
@@ -53,7 +53,7 @@ use Rattle.state_rows.specs.declared.thread.ThreadRow.{ThreadRow}
 use Rattle.std.proofs.lemmas.Bool.{cases_eq, eq-eqb}
 use Rattle.std.specs.Prelude.{option_map, slice_set, if◌then◌else◌, ◌==◌}
 use Rattle.sym_base.specs.declared.number.ObjNo.{ObjNo}
-use Rattle.std.proofs.Math.ListN.{get_or-append}
+use Rattle.move_laws.proofs.Lives.NewObjects.{made-other as new-other, next_number_is}
 use Rattle.machine_laws.proofs.Fitting.Regular.{gained_bit, use_bit}
 use Rattle.state_rows.specs.declared.duty.Owed.{Owed}
 use Rattle.state_rows.specs.declared.duty.Owed.TheVariants.{Close, Sweep}
@@ -175,7 +175,8 @@ uses-move script S t (Gain h x) fits u o row is uses = using-gained h x S.refere
 uses-move script S t (Lose h x) fits u o row is uses =
     let one = using-closed (dies S x) x (threads_lose h S.references.threads) u o row is uses in
     inr (unused-close (dies S x) h x u, using-lost h S.references.threads u o one.old one.was one.uses)
-uses-move script S t (Find v x) fits u o row is uses = inr (refl, using-with S.references.threads v (with_found x) u o row (λ r. refl) is uses)
+uses-move script S t (Find v x) fits u o row is uses =
+    inr (refl, using-with S.references.threads v (with_found x (place_of (object_of S x))) u o row (λ r. refl) is uses)
 uses-move script S t (Open v x part) fits u o row is uses = using-begun S.references.threads v x (with_opened x part) u o row (λ r. refl) is uses
 uses-move script S t (Miss v x) fits u o row is uses = inr (refl, using-with S.references.threads v with_missed u o row (λ r. refl) is uses)
 uses-move script S t (GoOn v part) fits u o row is uses = inr (refl, using-with S.references.threads v (with_part part) u o row (λ r. refl) is uses)
@@ -255,12 +256,13 @@ alive-closed true x objects o alive = elim (cases_eq o.0 x.0) as (λ _. IsAlive 
 alive-closed false x objects o alive = alive
 
 pub alive-move : (script : Script) (S : State) (t : ObjNo) (m : Move) → FitsMove script t m S → (o : ObjNo)
-    → o.0 < length S.references.objects → IsAlive (object_of (moved t m S) o) → IsAlive (object_of S o)
-alive-move script S t (Make kind name h) fits o made alive =
-    subst IsAlive (get_or-append S.references.objects (Some (new_object kind name) ∷ []) None o.0 made) alive
-alive-move script S t (Lose h x) fits o made alive = alive-closed (dies S x) x S.references.objects o alive
-alive-move script S t (Pay what) fits o made alive = absurd fits
-alive-move script S t m fits o made alive = alive
+    → (o.0 ≡ (next_object S).0 → ⊥) → IsAlive (object_of (moved t m S) o) → IsAlive (object_of S o)
+alive-move script S t (Make kind name h) fits o apart alive =
+    subst IsAlive (new-other S.references.objects (next_object S).0 o.0 (new_object kind name S.references.made)
+    (next_number_is S.mode.reuse S.references.objects).0 apart) alive
+alive-move script S t (Lose h x) fits o apart alive = alive-closed (dies S x) x S.references.objects o alive
+alive-move script S t (Pay what) fits o apart alive = absurd fits
+alive-move script S t m fits o apart alive = alive
 
 session-mapped : (f : SessionRow → SessionRow) (r : ServerRows) (x s : ObjNo) (row : SessionRow)
     → ((z : SessionRow) → (f z).slots ≡ z.slots)

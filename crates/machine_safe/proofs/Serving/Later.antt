@@ -5,7 +5,8 @@ use Rattle.machine_safe.proofs.Serving.Doing.{IsGoing}
 use Rattle.machine_safe.proofs.Serving.Fated.{doom-told}
 use Rattle.machine_laws.proofs.Fitting.Interrupts.{goes-immediate, goes-interrupt, sane-supervisor}
 use Rattle.machine_laws.proofs.Fitting.Regular.{doomed_bit}
-use Rattle.move_laws.proofs.Lists.Totals.{inside}
+use Rattle.move_laws.proofs.Lists.Totals.{inside, total_within}
+use Rattle.move_laws.proofs.Lives.Bits.{dead_le}
 use Rattle.machine_safe.proofs.Serving.Proceeding.{IsProperly, Proceeding, fits-any, proceeding, properly, returns, steps}
 use Rattle.machine_safe.proofs.Serving.Proper.{AreProper, resting, stepping}
 use Rattle.machine_safe.proofs.Serving.Owning.{Owned}
@@ -22,11 +23,11 @@ use Rattle.sym_base.specs.declared.number.ObjNo.{ObjNo}
 use Rattle.script_types.specs.declared.script.Script.{Script}
 use Rattle.machine.specs.declared.state.State.{State}
 use Rattle.state_rows.specs.declared.thread.ThreadRow.{ThreadRow}
-use Rattle.machine.specs.WellFormed.{AreRows, IsLiveThread}
+use Rattle.machine.specs.WellFormed.{AreRows, IsLiveThread, is_dead, owed_sweeps}
 use Rattle.script_types.specs.Shape.{IsShaped}
 use Rattle.machine.specs.declared.moves.Move.{Move}
 use Rattle.entry_log.specs.declared.step.Part.{Part}
-use Rattle.machine.specs.Rows.{thread_of, with_row}
+use Rattle.machine.specs.Rows.{object_of, owed_of, thread_of, with_row}
 use Rattle.machine.specs.Fits.{EachFits, IsAtStage}
 use Rattle.state_rows.specs.declared.thread.Stage.TheVariants.{Live, Doomed, Cleaned, Buried}
 use Rattle.machine_laws.proofs.Fitting.Regular.{going_late, Kinds, advance_bit, going_bit, answer_bit, kind_of, looking, kind_given}
@@ -40,9 +41,10 @@ use Rattle.move_laws.proofs.Holders.ThreadRows.{row-here}
 use Rattle.machine_laws.proofs.Fitting.Actions.{FitsAction, each-action}
 use Rattle.machine.specs.declared.moves.Move.TheVariants.{Advance, Pay}
 use Rattle.machine_safe.proofs.Serving.Others.{Carries, carries-each, midway-pay, at-each, same-instruction, WasMidway}
-use Rattle.move_laws.proofs.References.Same.{if_zero, same_object}
+use Rattle.move_laws.proofs.References.Same.{if_zero, same_object, same_self}
 use Rattle.machine.specs.declared.holding.Holding.{Holding}
 use Rattle.state_rows.specs.declared.duty.Owed.{Owed}
+use Rattle.state_rows.specs.declared.duty.Owed.TheVariants as duty
 use Rattle.machine.specs.Steps.{decision_of, return_of, step_of}
 use Rattle.machine_laws.proofs.Fitting.Working.{IsGiven}
 use Rattle.machine.specs.Reaping.{give_up}
@@ -71,6 +73,21 @@ pub record Passes (script : Script) (S : State) (t : ObjNo) (ms : List Move) (u 
   pub stays : t.0 ≡ u.0 → total going_bit ms ≡ 0
   pub undoomed : total (doomed_bit u) ms ≡ 0
 
+-- what is swept is dead
+abbrev pub SweepsDead : State → Owed → Type 0
+SweepsDead S (duty.Close h o) = Unit {0}
+SweepsDead S (duty.Sweep o) = is_dead (object_of S o) ≡ 1
+
+pub sweeps-dead : (script : Script) (S : State) (t : ObjNo) (what : Owed) (rest : List Owed) → AreRows script S → owed_of S t ≡ what ∷ rest → SweepsDead S what
+sweeps-dead script S t (duty.Close h o) rest rows owes = tt
+sweeps-dead script S t (duty.Sweep o) rest rows owes =
+    let within = total_within (owed_sweeps o) S.references.owed t.0 in
+    let first = ap (total (owed_sweeps o)) owes in
+    let self = same_self o in
+    let all = rows.lives.sweeps o in
+    let few = dead_le (object_of S o) in
+    omega arith
+
 -- A fact that is due at some steps, all of them later ones of their instructions: moves that carry a thread leave it, and so does a payment.
 pub record IsFact (script : Script) (due : Option Instr → Option Part → Bool) (F : State → ObjNo → ThreadRow → Type 0) : Type 0 where
   pub later : (i : Option Instr) (p : Option Part) → due i p ≡ true → is_some p ≡ true
@@ -79,7 +96,7 @@ pub record IsFact (script : Script) (due : Option Instr → Option Part → Bool
       ≡ true → F S v r)
       → (u : ObjNo) (row : ThreadRow) → thread_of (perform t ms S) u ≡ Some row → (c : Carries S (perform t ms S) u row)
       → Passes script S t ms u → F S u c.mid.old → F (perform t ms S) u row
-  pub paid : (S : State) (t : ObjNo) (what : Owed) (u : ObjNo) (row : ThreadRow)
+  pub paid : (S : State) (t : ObjNo) (what : Owed) → AreRows script S → SweepsDead S what → (u : ObjNo) (row : ThreadRow)
       → thread_of (moved t (Pay what) S) u ≡ Some row → (mid : WasMidway S.references.threads u.0 row) → F S u mid.old
       → F (moved t (Pay what) S) u row
 
@@ -180,12 +197,12 @@ module _ (script : Script) (due : Option Instr → Option Part → Bool) (F : St
       }) (has u c.mid.old c.mid.was (c.mid.live live) before)
 
   -- what is owed is paid
-  fact-paid : (t : ObjNo) (what : Owed) (u : ObjNo) (row : ThreadRow) → thread_of (moved t (Pay what) S) u ≡ Some row
+  fact-paid : (t : ObjNo) (what : Owed) → SweepsDead S what → (u : ObjNo) (row : ThreadRow) → thread_of (moved t (Pay what) S) u ≡ Some row
       → row.stage ≡ Live → due (instruction script row) row.part ≡ true → F (moved t (Pay what) S) u row
-  fact-paid t what u row is live owes =
+  fact-paid t what dead u row is live owes =
       let mid = midway-pay S t what u.0 row is in
       let at : instruction script row ≡ instruction script mid.old = same-instruction script mid.old row mid.role (sym mid.place) in
-      fact.paid S t what u row is mid (has u mid.old mid.was (mid.live live)
+      fact.paid S t what rows dead u row is mid (has u mid.old mid.was (mid.live live)
       (ap (due (instruction script mid.old)) mid.part ∙ (ap (λ (i : Option Instr). due i row.part) (sym at) ∙ owes)))
 
   abbrev Then : ObjNo → Decision → Type 0
@@ -304,7 +321,7 @@ module _ (script : Script) (due : Option Instr → Option Part → Bool) (F : St
     steps = λ old i is live going at fits proceeds lived. step-fact t old i gives is live going at fits;
     returns = λ old i is back at fits proceeds lived. return-fact t old i gives is back at fits lived;
     gives = λ old what given fits proceeds lived. give-fact t old what given fits lived;
-    pays = λ what rest owed proceeds lived row is live owes. fact-paid t what t row is live owes;
+    pays = λ what rest owed proceeds lived row is live owes. fact-paid t what (sweeps-dead script S t what rest rows owed) t row is live owes;
   }) shaped rows (proceeding script S t shaped rows)
 
   -- another thread's action
@@ -318,7 +335,8 @@ module _ (script : Script) (due : Option Instr → Option Part → Bool) (F : St
     | inr other ↦ elim other as (λ _. F (perform t ms S) u row) [
       | inl pays ↦
           subst (λ (l : List Move). F (perform t l S) u row) (sym pays.moves)
-          (fact-paid t pays.what u row (ap (λ (l : List Move). thread_of (perform t l S) u) (sym pays.moves) ∙ is) live
+          (fact-paid t pays.what (sweeps-dead script S t pays.what pays.rest rows pays.owes) u row
+          (ap (λ (l : List Move). thread_of (perform t l S) u) (sym pays.moves) ∙ is) live
           owes)
       | inr none ↦
           subst (λ (l : List Move). F (perform t l S) u row) (sym none)

@@ -8,10 +8,10 @@ use Rattle.machine.specs.declared.state.State.{State}
 use Rattle.machine_safe.proofs.Serving.Deeds.{status_of_way}
 use Rattle.machine_safe.proofs.Serving.EffectSums.{accepts-append, ends-append, finishes-append, server_told-append}
 use Rattle.machine_safe.proofs.Serving.Quiet.{IsQuiet, Post, posts}
-use Rattle.machine_safe.proofs.Serving.Reading.{effects-push}
+use Rattle.machine_safe.proofs.Serving.Since.{effects-push, owner_in-append, since-push}
 use Rattle.machine_safe.specs.CountAfter.{effects_of}
 use Rattle.machine_safe.specs.Sent.{Accepts, WasAccepted, finishes, instruction_in, status_by, accepts}
-use Rattle.machine_safe.specs.Served.{ends, or_before, server_in, server_told}
+use Rattle.machine_safe.specs.Served.{ends, ends_in, or_before, owner_in, server_in, server_told, since}
 use Rattle.move_laws.proofs.Lists.Contents.{contains_behind, contains_cases, contains_first, none_contained}
 use Rattle.move_laws.proofs.References.Same.{eqb_apart, if_is, if_not}
 use Rattle.script_types.specs.declared.script.Script.{Script}
@@ -34,7 +34,9 @@ pub record Known (script : Script) (before : List Entry) (p : Post) : Type 0 whe
   pub client : accepted.by.client ≡ p.client
   pub linked_then : server_in accepted.before accepted.by.session ≡ Some p.server
   pub linked : server_told (effects_of before) p.session ≡ Some p.server
-  pub lasts : ends (effects_of before) p.server ≡ 0
+  pub owned : is_some (owner_in before p.server) ≡ true
+  pub lasts : ends_in before p.server ≡ 0
+  pub stays : owner_in (accepted.at ∷ accepted.later) p.server ≡ None
   pub unfinished : finishes (effects_of before) p.number ≡ 0
   pub way : status_by accepted.at.step (instruction_in script accepted.before p.client) ≡ status_of_way p.way
   pub undoomed : is_some (status_of_way p.way) ≡ true → dooms (effects_of accepted.before) p.client ≡ 0
@@ -97,11 +99,18 @@ accepted-on before e m a = record {
   by = a.by;
 }
 
+-- how often a server ended, with an entry more that doesn't make it
+pub lasts-push : (before : List Entry) (e : Entry) (v : ObjNo) → owner_in (e ∷ []) v ≡ None → ends_in (before ++ e ∷ []) v ≡ ends_in before v + ends e.effects v
+lasts-push before e v unmade =
+    ap (λ (l : List Effect). ends l v) (since-push before e v
+    ∙ ap (λ (x : Option ObjNo). if is_some x then e.effects else effects_of (since before v) ++ e.effects) unmade)
+    ∙ ends-append (effects_of (since before v)) e.effects v
+
 -- and so does what is known of a message that the entry leaves
 pub known-on : (script : Script) (before : List Entry) (e : Entry) (p : Post) → Known script before p
-    → server_told e.effects p.session ≡ None → ends e.effects p.server ≡ 0 → finishes e.effects p.number ≡ 0
-    → Known script (before ++ e ∷ []) p
-known-on script before e p h unlinked unended unfinished =
+    → server_told e.effects p.session ≡ None → ends e.effects p.server ≡ 0 → owner_in (e ∷ []) p.server ≡ None
+    → finishes e.effects p.number ≡ 0 → Known script (before ++ e ∷ []) p
+known-on script before e p h unlinked unended unmade unfinished =
     let es = effects-push before e in
     record {
       accepted = accepted-on before e p.number h.accepted;
@@ -112,11 +121,14 @@ known-on script before e p h unlinked unended unfinished =
           ap (λ (l : List Effect). server_told l p.session) es
           ∙ (server_told-append (effects_of before) e.effects p.session
           ∙ (ap (λ (x : Option ObjNo). or_before x (server_told (effects_of before) p.session)) unlinked ∙ h.linked));
+      owned = ap is_some (owner_in-append before (e ∷ []) p.server ∙ ap (λ (x : Option ObjNo). or_before x (owner_in before p.server)) unmade) ∙ h.owned;
       lasts =
-          let a = ap (λ (l : List Effect). ends l p.server) es in
-          let b = ends-append (effects_of before) e.effects p.server in
+          let a = lasts-push before e p.server unmade in
           let c = h.lasts in
           omega arith;
+      stays =
+          owner_in-append (h.accepted.at ∷ h.accepted.later) (e ∷ []) p.server
+          ∙ (ap (λ (x : Option ObjNo). or_before x (owner_in (h.accepted.at ∷ h.accepted.later) p.server)) unmade ∙ h.stays);
       unfinished =
           let a = ap (λ (l : List Effect). finishes l p.number) es in
           let b = finishes-append (effects_of before) e.effects p.number in
@@ -178,12 +190,13 @@ module _ (script : Script) (before : List Entry) (S T : State) (e : Entry) (h : 
   accepted-then = ap accepts (effects-push before e) ∙ accepts-append (effects_of before) e.effects
 
   -- no message comes or goes
-  pub letters-quiet : IsQuiet S T e.effects → ((p : Post) → Contains (posts S) p → ends e.effects p.server ≡ 0) → Letters script (before ++ e ∷ []) T
-  letters-quiet q unended = record {
+  pub letters-quiet : IsQuiet S T e.effects → ((p : Post) → Contains (posts S) p → ends e.effects p.server ≡ 0)
+      → ((p : Post) → Contains (posts S) p → owner_in (e ∷ []) p.server ≡ None) → Letters script (before ++ e ∷ []) T
+  letters-quiet q unended unmade = record {
     accepted = let a = accepted-then in let b = q.accepts in let c = h.accepted in let d = q.accepted in omega arith;
     known =
         λ p among. let was = subst (λ (l : List Post). Contains l p) q.posts among in
-        known-on script before e p (h.known p was) (unlinked p was) (unended p was) (q.finishes p.number);
+        known-on script before e p (h.known p was) (unlinked p was) (unended p was) (unmade p was) (q.finishes p.number);
     all =
         λ m a. old-accepted before e m (λ (l : List Entry) (s : ObjNo). (finishes (effects_of (before ++ e ∷ [])) m ≡ 1)
         ⊎ IsOut T m s (server_in l s)) q.accepts a (λ old.
@@ -209,45 +222,47 @@ module _ (script : Script) (before : List Entry) (S T : State) (e : Entry) (h : 
       → p.number.0 ≡ S.serving.messages.accepted + 1 → accepts a.rest ≡ 0 → ((m : MsgNo) → finishes e.effects m ≡ 0)
       → a.session ≡ p.session → a.client ≡ p.client
       → server_in before p.session ≡ Some p.server → server_told (effects_of before) p.session ≡ Some p.server
-      → server_told e.effects p.session ≡ None → ((v : ObjNo) → ends e.effects v ≡ 0)
-      → ends (effects_of before) p.server ≡ 0 → status_by e.step (instruction_in script before p.client)
+      → server_told e.effects p.session ≡ None → ((v : ObjNo) → ends e.effects v ≡ 0) → ((v : ObjNo) → owner_in (e ∷ []) v ≡ None)
+      → is_some (owner_in before p.server) ≡ true → ends_in before p.server ≡ 0 → status_by e.step (instruction_in script before p.client)
       ≡ status_of_way p.way → (is_some (status_of_way p.way) ≡ true → dooms (effects_of before) p.client ≡ 0)
       → slots_in script before p.session ≡ Some p.slots → (if is_send e.step then sent_told e.effects else [])
       ≡ sent_of p.way p → Letters script (before ++ e ∷ []) T
-  letters-more p posts_then more a number none unfinished session client linked_then linked unlinked_new unended lasts way undoomed slots sends = record {
-    accepted = let b = accepted-then in let c = ap accepts a.told in let d = h.accepted in omega arith;
-    known =
-        λ x among. elim (Contains-push_cases (posts S) p x (subst (λ (l : List Post). Contains l x) posts_then among)) as
-        (λ _. Known script (before ++ e ∷ []) x) [
-          | inl was ↦ known-on script before e x (h.known x was) (unlinked x was) (unended x.server) (unfinished x.number)
-          | inr own ↦ subst (Known script (before ++ e ∷ [])) own new
-        ];
-    all =
-        λ m w. elim (last-split before e w.before w.at w.later w.stands) as
-        (λ _. (finishes (effects_of (before ++ e ∷ [])) m ≡ 1) ⊎ IsOut T m w.by.session (server_in w.before w.by.session)) [
-          | inl end ↦ inr (newly m w.before w.at w.by end.front end.same)
-          | inr behind ↦
-              let old : WasAccepted before m = record { before = w.before; at = w.at; later = behind.rest; stands = behind.within; by = w.by } in
-              elim (h.all m old) as (λ _. (finishes (effects_of (before ++ e ∷ [])) m ≡ 1) ⊎ IsOut T m w.by.session (server_in w.before w.by.session)) [
-                | inl done ↦ inl (let b = finished-then m in let c = unfinished m in omega arith)
-                | inr out ↦
-                    inr (record {
-                      post = out.post;
-                      among = subst (λ (l : List Post). Contains l out.post) (sym posts_then)
-                          (contains_front (posts S) (p ∷ []) out.post out.among);
-                      number = out.number;
-                      over = out.over;
-                      at = out.at;
-                    })
-              ]
-        ];
-    later = λ m above. let b = finished-then m in let c = unfinished m in let d = h.later m (omega arith) in omega arith;
-    sends =
-        sends-more before e p [] unfinished new.unfinished sends
-        ∙ (ap (λ (l : List SentOver). l ++ sent_of p.way p) h.sends
-        ∙ (sym (ap (λ (l : List SentOver). over (posts S) ++ l) (append-nil (sent_of p.way p)))
-        ∙ (sym (over-append (posts S) (p ∷ [])) ∙ ap over (sym posts_then))));
-  }
+  letters-more p posts_then more a number none unfinished session client linked_then linked unlinked_new unended unmade
+      owned lasts way undoomed slots sends =
+      record {
+        accepted = let b = accepted-then in let c = ap accepts a.told in let d = h.accepted in omega arith;
+        known =
+            λ x among. elim (Contains-push_cases (posts S) p x (subst (λ (l : List Post). Contains l x) posts_then among)) as
+            (λ _. Known script (before ++ e ∷ []) x) [
+              | inl was ↦ known-on script before e x (h.known x was) (unlinked x was) (unended x.server) (unmade x.server) (unfinished x.number)
+              | inr own ↦ subst (Known script (before ++ e ∷ [])) own new
+            ];
+        all =
+            λ m w. elim (last-split before e w.before w.at w.later w.stands) as
+            (λ _. (finishes (effects_of (before ++ e ∷ [])) m ≡ 1) ⊎ IsOut T m w.by.session (server_in w.before w.by.session)) [
+              | inl end ↦ inr (newly m w.before w.at w.by end.front end.same)
+              | inr behind ↦
+                  let old : WasAccepted before m = record { before = w.before; at = w.at; later = behind.rest; stands = behind.within; by = w.by } in
+                  elim (h.all m old) as (λ _. (finishes (effects_of (before ++ e ∷ [])) m ≡ 1) ⊎ IsOut T m w.by.session (server_in w.before w.by.session)) [
+                    | inl done ↦ inl (let b = finished-then m in let c = unfinished m in omega arith)
+                    | inr out ↦
+                        inr (record {
+                          post = out.post;
+                          among = subst (λ (l : List Post). Contains l out.post) (sym posts_then)
+                              (contains_front (posts S) (p ∷ []) out.post out.among);
+                          number = out.number;
+                          over = out.over;
+                          at = out.at;
+                        })
+                  ]
+            ];
+        later = λ m above. let b = finished-then m in let c = unfinished m in let d = h.later m (omega arith) in omega arith;
+        sends =
+            sends-more before e p [] unfinished new.unfinished sends
+            ∙ (ap (λ (l : List SentOver). l ++ sent_of p.way p) h.sends
+            ∙ (sym (ap (λ (l : List SentOver). over (posts S) ++ l) (append-nil (sent_of p.way p)))
+            ∙ (sym (over-append (posts S) (p ∷ [])) ∙ ap over (sym posts_then))));
+      }
     where
       es : effects_of (before ++ e ∷ []) ≡ effects_of before ++ e.effects
       es = effects-push before e
@@ -262,11 +277,14 @@ module _ (script : Script) (before : List Entry) (S T : State) (e : Entry) (h : 
             ap (λ (l : List Effect). server_told l p.session) es
             ∙ (server_told-append (effects_of before) e.effects p.session
             ∙ (ap (λ (x : Option ObjNo). or_before x (server_told (effects_of before) p.session)) unlinked_new ∙ linked));
+        owned =
+            ap is_some (owner_in-append before (e ∷ []) p.server ∙ ap (λ (x : Option ObjNo). or_before x (owner_in before p.server)) (unmade p.server))
+            ∙ owned;
         lasts =
-            let b = ap (λ (l : List Effect). ends l p.server) es in
-            let c = ends-append (effects_of before) e.effects p.server in
+            let b = lasts-push before e p.server (unmade p.server) in
             let d = unended p.server in
             omega arith;
+        stays = unmade p.server;
         unfinished = let b = finished-then p.number in let c = unfinished p.number in let d = h.later p.number (omega arith) in omega arith;
         way = way;
         undoomed = undoomed;
@@ -291,13 +309,14 @@ module _ (script : Script) (before : List Entry) (S T : State) (e : Entry) (h : 
       → ((x : Post) → Contains (posts S) x → (x.number.0 ≢ p.number.0) → Contains (posts T) x)
       → T.serving.messages.accepted ≡ S.serving.messages.accepted
       → accepts e.effects ≡ 0 → ((m : MsgNo) → finishes e.effects m ≡ (if p.number.0 == m.0 then 1 else 0))
-      → ((v : ObjNo) → ends e.effects v ≡ 0) → p.number.0 ≤ S.serving.messages.accepted → over (posts T)
+      → ((v : ObjNo) → ends e.effects v ≡ 0) → ((v : ObjNo) → owner_in (e ∷ []) v ≡ None)
+      → p.number.0 ≤ S.serving.messages.accepted → over (posts T)
       ≡ filter (λ (x : SentOver). not (p.number.0 == x.number.0)) (over (posts S)) → Letters script (before ++ e ∷ []) T
-  letters-less p there fewer others same none goes unended given sends = record {
+  letters-less p there fewer others same none goes unended unmade given sends = record {
     accepted = let b = accepted-then in let d = h.accepted in omega arith;
     known =
         λ x among. let was = fewer x among in known-on script before e x (h.known x was.0) (unlinked x was.0)
-        (unended x.server) (goes x.number ∙ if_not (p.number.0 == x.number.0) 1
+        (unended x.server) (unmade x.server) (goes x.number ∙ if_not (p.number.0 == x.number.0) 1
         (eqb_apart p.number.0 x.number.0 (λ e. was.1 (sym e))));
     all =
         λ m a. old-accepted before e m (λ (l : List Entry) (s : ObjNo). (finishes (effects_of (before ++ e ∷ [])) m ≡ 1)

@@ -1,8 +1,7 @@
 -- What a thread's next step asks of the state stays there until it makes that step: a status that isn't pending, the fast mutex that it wants, the kind
 -- of what it uses or found, and the server that it owns and the message for which it waited.
 use Rattle.machine.specs.Kept.{dies}
-use Rattle.std.proofs.Common.{Bool, List, None, Option, Some, ap, arith, false, get_or, inl, inr, refl, subst, sym, true, ℕ, ◌<◌, ◌∙◌, ◌≡◌, ◌⊎◌, ◌%◌, length}
-use Rattle.std.proofs.lemmas.Bool.{cases_lt}
+use Rattle.std.proofs.Common.{Bool, List, None, Option, Some, ap, arith, false, get_or, get_or-set_other, inl, inr, refl, subst, sym, true, ℕ, ◌<◌, ◌∙◌, ◌≡◌, ◌⊎◌, ◌%◌}
 use Rattle.std.specs.Prelude.{is_some, option_map}
 use Rattle.sym_base.specs.declared.kind.Kind.{Kind}
 use Rattle.sym_base.specs.declared.number.ObjNo.{ObjNo}
@@ -10,14 +9,17 @@ use Rattle.script_types.specs.Shape.{IsShaped}
 use Rattle.script_types.specs.declared.instruction.Instr.{Instr}
 use Rattle.script_types.specs.declared.instruction.Instr.TheVariants as instr
 use Rattle.state_rows.specs.declared.thread.Stage.TheVariants.{Live}
-use Rattle.machine.specs.Rows.{thread_of}
+use Rattle.machine.specs.Rows.{object_of, thread_of}
+use Rattle.machine_laws.proofs.Fitting.Living.{use_is_alive}
+use Rattle.move_laws.proofs.Lives.Bits.{alive_undead}
+use Rattle.state_rows.specs.declared.object.ObjectRow.{ObjectRow}
 use Rattle.script_types.specs.declared.script.Script.{Script}
 use Rattle.entry_log.specs.declared.entry.Actor.{Actor}
 use Rattle.entry_log.specs.declared.step.Part.{Part}
 use Rattle.entry_log.specs.declared.step.Part.TheVariants as part
 use Rattle.state_rows.specs.Nano.{want_of}
 use Rattle.state_rows.specs.MessageChanges.{next_of}
-use Rattle.state_rows.specs.ServerRows.{is_closing, owner_of, server_at}
+use Rattle.state_rows.specs.ServerRows.{closes, is_closing, owner_of, server_at}
 use Rattle.state_rows.specs.declared.servers.ServerRow.{ServerRow}
 use Rattle.state_rows.specs.declared.duty.Owed.{Owed}
 use Rattle.state_rows.specs.declared.duty.Owed.TheVariants as duty
@@ -30,23 +32,23 @@ use Rattle.machine.specs.Out.{found_object}
 use Rattle.machine.specs.References.{total}
 use Rattle.machine.specs.Steps.{return_of, step_of}
 use Rattle.machine.specs.Task.{instruction}
-use Rattle.machine.specs.WellFormed.{AreRows}
+use Rattle.machine.specs.WellFormed.{AreRows, is_dead}
 use Rattle.machine.specs.declared.moves.Move.{Move}
 use Rattle.machine.specs.declared.moves.Move.TheVariants.{Pay}
 use Rattle.machine.specs.declared.state.State.{State}
-use Rattle.machine_safe.proofs.Serving.Course.{HasCome, IsMet, IsOfKind, IsOn, IsUnset, Met, asks, kind_found, kind_used, sets_status, takes_at, wants_at}
+use Rattle.machine_safe.proofs.Serving.Course.{FoundOf, HasCome, IsMet, IsOfKind, IsOn, IsUnset, Met, asks, kind_found, kind_used, sets_status, takes_at, wants_at}
 use Rattle.machine_safe.proofs.Serving.Courses.{course, return-course}
 use Rattle.machine_safe.proofs.Serving.Coming.{awaited-row, next-there, there-next, untaken_bit, were-sent}
 use Rattle.machine_safe.proofs.Serving.Kinds.{AreKinds}
 use Rattle.machine_safe.proofs.Serving.Naming.{names-own}
 use Rattle.machine_safe.proofs.Serving.Owning.{OwnBefore, Owned, own-kept}
 use Rattle.machine_safe.proofs.Serving.Staying.{IsMidst, midst-each}
-use Rattle.machine_safe.proofs.Serving.Later.{Facts, IsFact, Passes, StepsGive, boot-fact, next-fact}
+use Rattle.machine_safe.proofs.Serving.Later.{Facts, IsFact, Passes, StepsGive, SweepsDead, boot-fact, next-fact}
 use Rattle.machine_safe.proofs.Serving.Others.{same-instruction}
 use Rattle.machine_safe.proofs.Serving.Proceeding.{IsProperly}
-use Rattle.machine_safe.proofs.Serving.Proper.{IsTaking, awaited_by, message_awaited, receiving}
+use Rattle.machine_safe.proofs.Serving.Proper.{IsTaking, Mark, awaited_by, message_awaited, receiving}
 use Rattle.machine_safe.proofs.Serving.Straight.{Nowhere, course-gives, returning-part, straight-of, straying}
-use Rattle.machine_safe.proofs.Serving.AskedStays.{kind-closed, kind-each, kind-swept, unset-each, want-each}
+use Rattle.machine_safe.proofs.Serving.AskedStays.{kind-closed, kind-each, kind-swept, unset-each, want-each, was-each, was-paid}
 
 -- all that a step asks
 abbrev pub asked : Option Instr → Option Part → Bool
@@ -70,21 +72,23 @@ takes-receiving (instr.Receive x y) (Some part.Done) e = refl
 takes-receiving i p e = absurd (cc)
 
 pub met-kept : (S T : State) (u : ObjNo) (old row : ThreadRow) (i : Instr) → old.part ≡ row.part → old.uses ≡ row.uses
-    → old.found ≡ row.found
+    → old.found ≡ row.found → old.sought ≡ row.sought
     → ((s : ℕ) → IsUnset S.synchronization.requests u s → IsUnset T.synchronization.requests u s)
     → (is_some (want_of S.synchronization.nano u) ≡ true → is_some (want_of T.synchronization.nano u) ≡ true)
-    → ((k : Kind) (o : ObjNo) → IsOfKind S.references.objects k o → IsOfKind T.references.objects k o)
+    → ((k : Kind) (o : ObjNo) → old.uses ≡ Some o → IsOfKind S.references.objects k o → IsOfKind T.references.objects k o)
+    → ((k : Kind) (place : ℕ) (o : ObjNo) → FoundOf S k place o → FoundOf T k place o)
     → ((o : ObjNo) → receiving (Some i) old.part ≡ true → old.uses ≡ Some o → owner_of S.serving.servers o ≡ Some u
     → owner_of T.serving.servers o ≡ Some u)
     → ((o : ObjNo) → receiving (Some i) old.part ≡ true → old.uses ≡ Some o → owner_of S.serving.servers o ≡ Some u
     → HasCome S old o → HasCome T row o) → Met S u old i old.part → Met T u row i row.part
-met-kept S T u old row i part uses found unset want kinds owned came met = record {
+met-kept S T u old row i part uses found sought unset want kinds finds owned came met = record {
   unset = λ s is. unset s (met.unset s (ap (sets_status i) part ∙ is));
   wanted = λ is. want (met.wanted (ap (wants_at i) part ∙ is));
-  used = λ k o is used. kinds k o (met.used k o (ap (kind_used i) part ∙ is) (uses ∙ used));
+  used = λ k o is used. kinds k o (uses ∙ used) (met.used k o (ap (kind_used i) part ∙ is) (uses ∙ used));
   found =
-      λ k is. subst (IsOfKind T.references.objects k) (ap (λ (n : ℕ). record { 0 = n % 65536 }) found)
-      (kinds k (found_object old) (met.found k (ap (kind_found i) part ∙ is)));
+      λ k is. subst (λ (n : ℕ). FoundOf T k n (found_object row)) sought
+      (subst (FoundOf T k old.sought) (ap (λ (n : ℕ). record { 0 = n % 65536 }) found)
+      (finds k old.sought (found_object old) (met.found k (ap (kind_found i) part ∙ is))));
   owned = λ o is used. let receives = ap (receiving (Some i)) part ∙ is in owned o receives (uses ∙ used) (met.owned o receives (uses ∙ used));
   came = λ o is used.
       let takes = ap (takes_at i) part ∙ is in
@@ -119,21 +123,35 @@ come-later : (S T : State) (old row : ThreadRow) (o : ObjNo) → message_awaited
 come-later S T old row o waits next shut (inl awaits) = inl (sym waits ∙ awaits)
 come-later S T old row o waits next shut (inr there) = inr (ap is_some next ∙ there.0, shut ∙ there.1)
 
-met-paid : (S : State) (t : ObjNo) (what : Owed) (u : ObjNo) (old row : ThreadRow) (i : Instr)
+met-paid : (script : Script) (S : State) (t : ObjNo) (what : Owed) (u : ObjNo) (old row : ThreadRow) (i : Instr)
+    → AreRows script S → SweepsDead S what
     → thread_of S u ≡ Some old → thread_of (moved t (Pay what) S) u ≡ Some row → old.part ≡ row.part
-    → old.uses ≡ row.uses → old.found ≡ row.found → Met S u old i old.part → Met (moved t (Pay what) S) u row i row.part
-met-paid S t (duty.Close h x) u old row i was is part uses found met =
-    met-kept S (moved t (Pay (duty.Close h x)) S) u old row i part uses found
+    → old.uses ≡ row.uses → old.found ≡ row.found → old.sought ≡ row.sought → Met S u old i old.part → Met (moved t (Pay what) S) u row i row.part
+met-paid script S t (duty.Close h x) u old row i rows dead was is part uses found sought met =
+    met-kept S (moved t (Pay (duty.Close h x)) S) u old row i part uses found sought
     (λ s was. record { done = was.done; free = was.free }) (λ is. is)
-    (λ k o was. kind-closed (dies S x) x S.references.objects k o was)
+    (λ k o used was. kind-closed (dies S x) x S.references.objects k o was)
+    (λ k place o was. was-paid S t (duty.Close h x) k place o was)
     (λ o receives used own. own) (λ o receives used own come. come-later S (moved t (Pay (duty.Close h x)) S) old row o
     (sym (ap awaited_by was) ∙ paid-awaited S t (duty.Close h x) u row is) refl refl come) met
-met-paid S t (duty.Sweep x) u old row i was is part uses found met =
-    met-kept S (moved t (Pay (duty.Sweep x)) S) u old row i part uses found
+met-paid script S t (duty.Sweep x) u old row i rows dead was is part uses found sought met =
+    met-kept S (moved t (Pay (duty.Sweep x)) S) u old row i part uses found sought
     (λ s was. record { done = was.done; free = was.free }) (λ is. is)
-    (λ k o was. kind-swept S.references.objects x.0 k o was)
-    (λ o receives used own. own) (λ o receives used own come. come-later S (moved t (Pay (duty.Sweep x)) S) old row o
-    (sym (ap awaited_by was) ∙ paid-awaited S t (duty.Sweep x) u row is) refl refl come) met
+    (λ k o used was. kind-swept S.references.objects x.0 k o (apart o used) was)
+    (λ k place o was. was-paid S t (duty.Sweep x) k place o was)
+    (λ o receives used own. ap (option_map (λ (r : ServerRow). r.owner)) (server o used) ∙ own)
+    (λ o receives used own come. come-later S (moved t (Pay (duty.Sweep x)) S) old row o
+    (sym (ap awaited_by was) ∙ paid-awaited S t (duty.Sweep x) u row is) refl (ap closes (server o used)) come) met
+  where
+    -- what is used is alive, and so isn't swept
+    apart : (o : ObjNo) → old.uses ≡ Some o → o.0 ≡ x.0 → ⊥
+    apart o used at =
+        let undead = alive_undead (object_of S o) (use_is_alive S u old o rows.lives was used) in
+        let same = ap (λ (n : ℕ). is_dead (get_or S.references.objects n None)) at in
+        absurd (omega arith)
+
+    server : (o : ObjNo) → old.uses ≡ Some o → server_at (moved t (Pay (duty.Sweep x)) S).serving.servers o ≡ server_at S.serving.servers o
+    server o used = get_or-set_other S.serving.servers.servers x.0 o.0 None None (apart o used)
 
 -- what is received is asked
 receiving-asked : (at : Option Instr) (p : Option Part) → receiving at p ≡ true → asked at p ≡ true
@@ -150,15 +168,16 @@ takes-own script S v o row met receives uses = by (instruction script row) met r
     by None met receives = absurd (cc)
     by (Some i) met receives = met.owned o receives uses
 
-owned-made : (S : State) (u o : ObjNo) → AreKinds S → owner_of S.serving.servers o ≡ Some u → o.0 < length S.references.objects
-owned-made S u o kinds owner = elim (cases_lt o.0 (length S.references.objects)) as (λ _. o.0 < length S.references.objects) [
-  | inl made ↦ made
-  | inr past ↦ let none = kinds.unmade o past in absurd (by (server_at S.serving.servers o) owner none)
-]
+owned-made : (S : State) (u o : ObjNo) → AreKinds S → owner_of S.serving.servers o ≡ Some u → is_some (object_of S o) ≡ true
+owned-made S u o kinds owner = there (object_of S o) refl
   where
     by : (x : Option ServerRow) → option_map (λ (row : ServerRow). row.owner) x ≡ Some u → is_some x ≡ false → ⊥
     by None owner none = cc
     by (Some row) owner none = cc
+
+    there : (x : Option ObjectRow) → object_of S o ≡ x → is_some x ≡ true
+    there None is = absurd (by (server_at S.serving.servers o) owner (kinds.unmade o is))
+    there (Some row) is = refl
 
 own-before : (script : Script) (on : Option ObjNo) (S : State) (ms : List Move) → Owned S → OwnBefore (on, S, None) S ms
 own-before script None S ms own = (own-kept script).rests S ms own
@@ -170,7 +189,7 @@ module _ (script : Script) (S : State) (t : ObjNo) (ms : List Move) (rows : AreR
     ≡ true → MetAt script S v r) (u : ObjNo) (old row : ThreadRow) (was : thread_of S u ≡ Some old)
     (is : thread_of (perform t ms S) u ≡ Some row) (passes : Passes script S t ms u) (o : ObjNo)
     (owner : owner_of S.serving.servers o ≡ Some u) where
-  untaken : (last : Option ObjNo) → IsTaking script (passes.on, S, last) o → ⊥
+  untaken : (last : Option Mark) → IsTaking script (passes.on, S, last) o → ⊥
   untaken last taking =
       let other = takes-own script S taking.thread o taking.row
       (has taking.thread taking.row taking.is taking.live
@@ -184,7 +203,7 @@ module _ (script : Script) (S : State) (t : ObjNo) (ms : List Move) (rows : AreR
   come-here (inl waits) = let awaits = ap awaited_by was ∙ waits in inl (awaits, awaits)
   come-here (inr there) = inr (there-next S.serving.messages o there.0, there.1)
 
-  stays : (last : Option ObjNo) × IsMidst (HasCome S old o) u o passes.on S last (perform t ms S)
+  stays : (last : Option Mark) × IsMidst (HasCome S old o) u o passes.on S last (perform t ms S)
   stays =
       midst-each script (HasCome S old o) u o passes.on S t rows
       (owned-made S u o passes.own.1 owner) passes.apart untaken None S ms passes.goes passes.proper
@@ -206,16 +225,17 @@ met-fact script = record {
   carried =
       λ S t ms rows has u row is c passes was. met-by script S (perform t ms S) u c.mid.old row
       (same-instruction script c.mid.old row c.mid.role (sym c.mid.place))
-      (λ i met. met-kept S (perform t ms S) u c.mid.old row i c.mid.part c.mid.uses c.mid.found
+      (λ i met. met-kept S (perform t ms S) u c.mid.old row i c.mid.part c.mid.uses c.mid.found c.mid.sought
       (λ s unset. unset-each script S t ms (passes.on, S, None) u s passes.goes.each passes.proper passes.apart unset)
       (λ is. want-each script S t ms (passes.on, S, None) u passes.goes.each passes.proper passes.apart passes.undoomed is)
-      (λ k o was. kind-each script S t ms k o passes.goes.each was)
+      (λ k o used was. kind-each script S t ms k o passes.goes.each was)
+      (λ k place o was. was-each script S t ms k place o passes.goes.each was)
       (λ o receives used own. stays-owned script S t ms rows has u c.mid.old row c.mid.was is passes o own)
       (λ o receives used own come. stays-come script S t ms rows has u c.mid.old row c.mid.was is passes o own come) met) was;
   paid =
-      λ S t what u row is mid was. met-by script S (moved t (Pay what) S) u mid.old row
+      λ S t what rows dead u row is mid was. met-by script S (moved t (Pay what) S) u mid.old row
       (same-instruction script mid.old row mid.role (sym mid.place))
-      (λ i met. met-paid S t what u mid.old row i mid.was is mid.part mid.uses mid.found met) was;
+      (λ i met. met-paid script S t what u mid.old row i rows dead mid.was is mid.part mid.uses mid.found mid.sought met) was;
 }
 
 -- what a step asks is asked of a later step

@@ -2,13 +2,14 @@
 -- does its own thread, as long as that neither goes on nor gives up a handle or what it uses.
 use Rattle.entry_log.specs.declared.effect.Holder.{Holder}
 use Rattle.entry_log.specs.declared.effect.Holder.TheVariants.{InProcess, InThread, Own, Temp}
+use Rattle.state_rows.specs.ObjectRows.{place_of}
 use Rattle.machine.specs.DeathMoves.{death_row, death_thread}
 use Rattle.machine.specs.Fits.{EachFits, FitsMove, Holds, IsFree, IsOwn}
 use Rattle.machine.specs.Moves.{advanced, moved, next_object, perform, tables_gain, tables_lose, threads_closed, threads_gain, threads_lose, unlinked, with_found, with_kept, with_message, with_missed, with_opened, with_part, with_priority, with_register, with_use, with_waiting}
 use Rattle.machine.specs.Kept.{dies}
 use Rattle.machine.specs.References.{total}
 use Rattle.machine.specs.Handles.{freed_slot, taken_slot, with_slot}
-use Rattle.machine.specs.Rows.{table_of, thread_of, with_row}
+use Rattle.machine.specs.Rows.{object_of, table_of, thread_of, with_row}
 use Rattle.machine.specs.declared.death_move.DeathMove.{DeathMove}
 use Rattle.machine.specs.declared.death_move.DeathMove.TheVariants.{Bury, Clean, Doom, Note}
 use Rattle.machine.specs.declared.moves.Move.{Move}
@@ -43,6 +44,7 @@ pub record WasMidway (threads : List (Option ThreadRow)) (k : ℕ) (row : Thread
   pub place : old.next_instruction ≡ row.next_instruction
   pub part : old.part ≡ row.part
   pub found : old.found ≡ row.found
+  pub sought : old.sought ≡ row.sought
   pub uses : old.uses ≡ row.uses
   pub live : row.stage ≡ Live → old.stage ≡ Live
 
@@ -52,11 +54,12 @@ record KeepsMidway (f : ThreadRow → ThreadRow) : Type 0 where
   pub place : (row : ThreadRow) → (f row).next_instruction ≡ row.next_instruction
   pub part : (row : ThreadRow) → (f row).part ≡ row.part
   pub found : (row : ThreadRow) → (f row).found ≡ row.found
+  pub sought : (row : ThreadRow) → (f row).sought ≡ row.sought
   pub uses : (row : ThreadRow) → (f row).uses ≡ row.uses
   pub live : (row : ThreadRow) → (f row).stage ≡ Live → row.stage ≡ Live
 
 midway-same : (threads : List (Option ThreadRow)) (k : ℕ) (row : ThreadRow) → get_or threads k None ≡ Some row → WasMidway threads k row
-midway-same threads k row is = record { old = row; was = is; role = refl; place = refl; part = refl; found = refl; uses = refl; live = λ e. e }
+midway-same threads k row is = record { old = row; was = is; role = refl; place = refl; part = refl; found = refl; sought = refl; uses = refl; live = λ e. e }
 
 midway-with : (threads : List (Option ThreadRow)) (u : ObjNo) (f : ThreadRow → ThreadRow) → KeepsMidway f
     → (k : ℕ) (row : ThreadRow) → get_or (with_row threads u f) k None ≡ Some row → WasMidway threads k row
@@ -69,6 +72,7 @@ midway-with threads u f keeps k row is =
       place = sym (keeps.place old);
       part = sym (keeps.part old);
       found = sym (keeps.found old);
+      sought = sym (keeps.sought old);
       uses = sym (keeps.uses old);
       live = keeps.live old;
     })
@@ -104,6 +108,7 @@ midway-closed true o threads k row is =
       place = λ r. refl;
       part = λ r. refl;
       found = λ r. refl;
+      sought = λ r. refl;
       uses = λ r. refl;
       live = λ r e. e;
     }) k row is
@@ -117,6 +122,7 @@ midway-dies threads (Note u exit) k row is =
       place = λ r. refl;
       part = λ r. refl;
       found = λ r. refl;
+      sought = λ r. refl;
       uses = λ r. refl;
       live = λ r e. e;
     }) k row is
@@ -126,6 +132,7 @@ midway-dies threads (Doom u exit) k row is =
       place = λ r. refl;
       part = λ r. refl;
       found = λ r. refl;
+      sought = λ r. refl;
       uses = λ r. refl;
       live = λ r e. absurd (cc);
     }) k row is
@@ -135,6 +142,7 @@ midway-dies threads (Clean u) k row is =
       place = λ r. refl;
       part = λ r. refl;
       found = λ r. refl;
+      sought = λ r. refl;
       uses = λ r. refl;
       live = λ r e. absurd (cc);
     }) k row is
@@ -144,6 +152,7 @@ midway-dies threads (Bury u) k row is =
       place = λ r. refl;
       part = λ r. refl;
       found = λ r. refl;
+      sought = λ r. refl;
       uses = λ r. refl;
       live = λ r e. absurd (cc);
     }) k row is
@@ -156,6 +165,7 @@ midway-then S T k row later first = record {
   place = first.place ∙ later.place;
   part = first.part ∙ later.part;
   found = first.found ∙ later.found;
+  sought = first.sought ∙ later.sought;
   uses = first.uses ∙ later.uses;
   live = λ e. first.live (later.live e);
 }
@@ -180,11 +190,12 @@ midway-move script S t (Gain h o) fits k row stays later is = midway-gained h o 
 midway-move script S t (Lose h o) fits k row stays later is =
     let one = midway-closed (dies S o) o (threads_lose h S.references.threads) k row is in
     midway-then S.references.threads (threads_lose h S.references.threads) k row one (midway-lost h o S.references.threads t k one.old fits.2 stays one.was)
-midway-move script S t (Find u o) fits k row stays later is = midway-own S.references.threads t u (with_found o) k row fits.1 (goes-apart t k stays) is
+midway-move script S t (Find u o) fits k row stays later is =
+    midway-own S.references.threads t u (with_found o (place_of (object_of S o))) k row fits.1 (goes-apart t k stays) is
 midway-move script S t (Open u o part) fits k row stays later is =
     midway-own S.references.threads t u (with_opened o part) k row fits.1 (goes-apart t k stays) is
 midway-move script S t (Miss u o) fits k row stays later is = midway-own S.references.threads t u with_missed k row fits.1 (goes-apart t k stays) is
-midway-move script S t (GoOn u part) fits k row stays later is = midway-own S.references.threads t u (with_part part) k row fits.2 (goes-apart t k stays) is
+midway-move script S t (GoOn u part) fits k row stays later is = midway-own S.references.threads t u (with_part part) k row fits.1 (goes-apart t k stays) is
 midway-move script S t (Keep u number) fits k row stays later is = midway-own S.references.threads t u (with_kept number) k row fits.1 (goes-apart t k stays) is
 midway-move script S t (Write u x value) fits k row stays later is =
     midway-with S.references.threads u (with_register x value)
@@ -193,6 +204,7 @@ midway-move script S t (Write u x value) fits k row stays later is =
       place = λ r. refl;
       part = λ r. refl;
       found = λ r. refl;
+      sought = λ r. refl;
       uses = λ r. refl;
       live = λ r e. e;
     }) k row is
@@ -203,6 +215,7 @@ midway-move script S t (WriteMessage u y number) fits k row stays later is =
       place = λ r. refl;
       part = λ r. refl;
       found = λ r. refl;
+      sought = λ r. refl;
       uses = λ r. refl;
       live = λ r e. e;
     }) k row is
@@ -215,6 +228,7 @@ midway-move script S t (Wait u what) fits k row stays later is =
       place = λ r. refl;
       part = λ r. refl;
       found = λ r. refl;
+      sought = λ r. refl;
       uses = λ r. refl;
       live = λ r e. e;
     }) k row is
@@ -225,6 +239,7 @@ midway-move script S t (Wake u) fits k row stays later is =
       place = λ r. refl;
       part = λ r. refl;
       found = λ r. refl;
+      sought = λ r. refl;
       uses = λ r. refl;
       live = λ r e. e;
     }) k row is
@@ -235,6 +250,7 @@ midway-move script S t (SetPriority u priority) fits k row stays later is =
       place = λ r. refl;
       part = λ r. refl;
       found = λ r. refl;
+      sought = λ r. refl;
       uses = λ r. refl;
       live = λ r e. e;
     }) k row is

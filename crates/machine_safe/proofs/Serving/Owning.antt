@@ -1,5 +1,5 @@
 -- A server's handle is in the table of the thread that owns it, and nowhere else; and no thread's process is an owner of one.
-use Rattle.std.proofs.Common.{Bool, List, None, Option, Some, [], ap, arith, false, get_or, inl, inr, length, refl, subst, sym, true, ℕ, ◌<◌, ◌≤◌, ◌∙◌, ◌∷◌, ◌≡◌, ◌⊎◌}
+use Rattle.std.proofs.Common.{Bool, List, None, Option, Some, [], ap, false, get_or, inl, inr, refl, subst, sym, true, ℕ, ◌∙◌, ◌∷◌, ◌≡◌, ◌⊎◌}
 use Rattle.std.specs.Prelude.{is_some, option_map, slice_set}
 use Rattle.sym_base.specs.declared.kind.Kind.{Kind}
 use Rattle.sym_base.specs.declared.number.ObjNo.{ObjNo}
@@ -20,7 +20,7 @@ use Rattle.machine.specs.Fits.{FitsMove}
 use Rattle.machine.specs.Handles.{freed_slot, taken_slot, with_slot}
 use Rattle.machine.specs.Kept.{dies}
 use Rattle.machine.specs.Moves.{moved, next_object, tables_gain, tables_lose, threads_closed, unlinked}
-use Rattle.machine.specs.Rows.{table_of, thread_of}
+use Rattle.machine.specs.Rows.{object_of, table_of, thread_of}
 use Rattle.machine.specs.ServerMoves.{all_closing, owned_by, servers_lose}
 use Rattle.machine.specs.WellFormed.{AreRows}
 use Rattle.machine.specs.declared.moves.Move.{Move}
@@ -31,10 +31,10 @@ use Rattle.machine_safe.proofs.Deaths.Moves.{dies-move}
 use Rattle.machine_safe.proofs.Deaths.Rows.{WasIn}
 use Rattle.machine_safe.proofs.Serving.Unserved.{none-move, slot_made}
 use Rattle.machine_safe.proofs.Serving.Kinds.{AreKinds, KindsBefore, has_server, kinds-kept}
-use Rattle.machine_safe.proofs.Serving.KeptRows.{objects-move}
+use Rattle.machine_safe.proofs.Serving.KeptRows.{next-unmade, objects-move}
 use Rattle.machine_safe.proofs.Serving.Proper.{Going, IsOther, IsProper, MayHave, goes_on, makes_own, onward, resting, stepping}
 use Rattle.machine_safe.proofs.Serving.ProperKept.{IsKept}
-use Rattle.move_laws.proofs.Lists.Totals.{inside}
+use Rattle.move_laws.proofs.Lives.NewObjects.{next_number_is}
 use Rattle.move_laws.proofs.References.Same.{same_object}
 use Rattle.move_laws.proofs.RowLaws.Threads.{map_some, was_row}
 
@@ -145,16 +145,15 @@ pub record OwnBefore (by : Going) (S : State) (ms : List Move) : Type 0 where
   pub own : AreOwn S
   pub kinds : KindsBefore by S ms
   pub first : AreKinds by.1
-  pub long : length by.1.references.objects ≤ length S.references.objects
-  pub older : (o : ObjNo) → o.0 < length by.1.references.objects → has_server by.1 o ≡ false → has_server S o ≡ false
-  pub newer : (o : ObjNo) (row : ServerRow) → server_at S.serving.servers o ≡ Some row → length by.1.references.objects ≤ o.0 → goes_on by ≡ Some row.owner
+  pub stays : (o : ObjNo) → is_some (object_of by.1 o) ≡ true → is_some (object_of S o) ≡ true
+  pub older : (o : ObjNo) → is_some (object_of by.1 o) ≡ true → has_server by.1 o ≡ false → has_server S o ≡ false
+  pub newer : (o : ObjNo) (row : ServerRow) → server_at S.serving.servers o ≡ Some row → object_of by.1 o ≡ None → goes_on by ≡ Some row.owner
 
 -- what is no server isn't one now
 other-unserved : (by : Going) (S : State) (ms : List Move) (o : ObjNo) (row : ServerRow) → OwnBefore by S ms
     → IsOther by.1 o → server_at S.serving.servers o ≡ Some row → ⊥
 other-unserved by S ms o row q other at =
-    let within = inside by.1.references.objects o.0 other.0 other.1 in
-    let none = q.older o within (q.first.servers o other.0 other.1 ∙ other.2) in
+    let none = q.older o (ap is_some other.1) (q.first.servers o other.0 other.1 ∙ other.2) in
     let some = ap is_some at in cc
 
 -- whose place a server gets
@@ -165,8 +164,8 @@ had-own by S ms (InProcess p i) o k row q other at u j is same = absurd (other-u
 had-own by S ms (InThread v i) o k row q may at u j is same = elim may as (λ _. row.owner ≡ k) [
   | inl other ↦ absurd (other-unserved by S ms o row q other at)
   | inr made ↦
-      let first = made.0 in
-      let going = q.newer o row at (omega arith) in
+      let none = (next_number_is by.1.mode.reuse by.1.references.objects).1 in
+      let going = q.newer o row at (ap (λ (n : ℕ). get_or by.1.references.objects n None) made.0 ∙ none) in
       let owner : row.owner ≡ v = (let on = made.1 in cc) in
       elim is as (λ _. row.owner ≡ k) [
         | inl other ↦ absurd (cc)
@@ -243,7 +242,8 @@ module _ (script : Script) (by : Going) (S : State) (t : ObjNo) (rows : AreRows 
     places = λ k i x row stands at.
         let made = slot_made script S k i x rows stands in
         let number = ap (λ (z : ObjNo). z.0) fits.next in
-        own.places k i x row stands (started-was o u x row (λ same. absurd (omega arith)) at);
+        own.places k i x row stands (started-was o u x row (λ same.
+        next-unmade S (ap (λ (n : ℕ). is_some (get_or S.references.objects n None)) (sym (same ∙ number)) ∙ made)) at);
     apart = λ x row k r at is same. elim (started-owner o u x row at) as (λ _. ⊥) [
       | inl was ↦ own.apart x row k r was is same
       | inr new ↦
@@ -290,7 +290,7 @@ module _ (script : Script) (by : Going) (S : State) (t : ObjNo) (rows : AreRows 
   -- who owns what is made now
   new-move : (m : Move) (ms : List Move) → FitsMove script t m S → IsProper script by m ms → OwnBefore by S (m ∷ ms)
       → (o : ObjNo) (row : ServerRow) → server_at (moved t m S).serving.servers o ≡ Some row
-      → length by.1.references.objects ≤ o.0 → goes_on by ≡ Some row.owner
+      → object_of by.1 o ≡ None → goes_on by ≡ Some row.owner
   new-move (Lose h x) ms fits proper q o row is past = let was = lost-was h S.serving.servers o row is in q.newer o was.0 was.1 past ∙ ap Some was.2
   new-move (Servers (Start x u)) ms fits proper q o row is past = elim (started-owner x u o row is) as (λ _. goes_on by ≡ Some row.owner) [
     | inl was ↦ q.newer o row was past
@@ -307,13 +307,12 @@ module _ (script : Script) (by : Going) (S : State) (t : ObjNo) (rows : AreRows 
   pub before-move : (m : Move) (ms : List Move) → FitsMove script t m S → IsProper script by m ms
       → OwnBefore by S (m ∷ ms) → OwnBefore (onward by m) (moved t m S) ms
   before-move m ms fits proper q =
-      let more = objects-move script S t m fits in
       record {
         own = own-move m ms fits proper q;
         kinds = (kinds-kept script).moves by S t m ms rows fits proper q.kinds;
         first = q.first;
-        long = (let long = q.long in omega arith);
-        older = λ o within none. none-move script S t m fits o (let long = q.long in omega arith) (q.older o within none);
+        stays = λ o there. objects-move script S t m fits o (q.stays o there);
+        older = λ o there none. none-move script S t m fits o (q.stays o there) (q.older o there none);
         newer = λ o row is past. new-move m ms fits proper q o row is past;
       }
 
@@ -336,7 +335,9 @@ own-paid S t (duty.Close h o) own =
     own-after S (moved t (Pay (duty.Close h o)) S) (λ k i x stands. stands) (λ x row is. (row, is, refl))
     (paid-row S t (duty.Close h o)) own
 own-paid S t (duty.Sweep o) own =
-    own-after S (moved t (Pay (duty.Sweep o)) S) (λ k i x stands. stands) (λ x row is. (row, is, refl))
+    own-after S (moved t (Pay (duty.Sweep o)) S) (λ k i x stands. stands)
+    (λ x row is. set_item (λ (y : Option ServerRow). y ≡ Some row → ServerWas S.serving.servers x row) S.serving.servers.servers
+    o.0 x.0 None None (λ at e. absurd (cc)) (λ e. (row, e, refl)) is)
     (paid-row S t (duty.Sweep o)) own
 
 pub before-all : (by : Going) (S : State) (ms : List Move) → by.1 ≡ S → KindsBefore by S ms → AreKinds S → AreOwn S → OwnBefore by S ms
@@ -344,11 +345,10 @@ before-all by S ms from kinds first own = record {
   own = own;
   kinds = kinds;
   first = subst AreKinds (sym from) first;
-  long = let same = ap (λ (z : State). length z.references.objects) from in omega arith;
-  older = λ o within none. ap (λ (z : State). has_server z o) (sym from) ∙ none;
+  stays = λ o there. ap (λ (z : State). is_some (object_of z o)) (sym from) ∙ there;
+  older = λ o there none. ap (λ (z : State). has_server z o) (sym from) ∙ none;
   newer = λ o row is past.
-      let same = ap (λ (z : State). length z.references.objects) from in
-      let none = first.unmade o (omega arith) in
+      let none = first.unmade o (ap (λ (z : State). object_of z o) (sym from) ∙ past) in
       let some = ap is_some is in absurd (cc);
 }
 

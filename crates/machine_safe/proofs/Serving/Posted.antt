@@ -21,10 +21,10 @@ use Rattle.machine_safe.proofs.Serving.Letters.{letters-more}
 use Rattle.machine_safe.proofs.Serving.Quiet.{Post, post_of, quiet-each, posts}
 use Rattle.machine_safe.proofs.Serving.Reading.{reading}
 use Rattle.machine_safe.proofs.Serving.Served.{served-made}
-use Rattle.machine_safe.proofs.Serving.Turns.{closing-told-by, Book, IsTurn, entry_for, served-doing, sent-answer}
+use Rattle.machine_safe.proofs.Serving.Turns.{closing-told-by, Book, IsTurn, entry_for, served-doing, sent-answer, unmade-by, unrenewed}
 use Rattle.machine_safe.specs.CountAfter.{effects_of, is_by}
 use Rattle.machine_safe.specs.Sent.{Accepts, accepts, accepts_by, finishes, instruction_in, status_by}
-use Rattle.machine_safe.specs.Served.{ends, is_closing_in, server_told}
+use Rattle.machine_safe.specs.Served.{ends_in, is_closing_in, owner_in, server_told}
 use Rattle.move_laws.proofs.Lists.Totals.{total-append}
 use Rattle.move_laws.proofs.Lives.LivesMove.{zero_or}
 use Rattle.move_laws.proofs.MoveLaws.RowMoves.{silent}
@@ -40,7 +40,6 @@ use Rattle.sym_base.specs.declared.number.MsgNo.{MsgNo}
 use Rattle.sym_base.specs.declared.number.ObjNo.{ObjNo}
 use Rattle.std.proofs.lemmas.List.{map-append}
 use Rattle.machine.specs.Messaging.{slots_of_row}
-use Rattle.machine_safe.proofs.Serving.Since.{fresh-on}
 use Rattle.machine_safe.proofs.Serving.Slots.{sent_of, slotted-keeps}
 use Rattle.machine_safe.specs.Slotted.{sent_told, slots_in}
 use Rattle.state_rows.specs.MessageRows.{is_async}
@@ -137,9 +136,9 @@ module _ (script : Script) (before : List Entry) (S : State) (place : ℕ) (t : 
           letters-more script before S T e book.letters
           (λ p among. keeps.unlinked p.session) post p.posts p.more by p.next p.none p.unfinished refl refl
           (book.slotted.servers is.row.session ∙ linked) linked
-          (keeps.unlinked is.row.session) keeps.unended unended way undoomed slots sends;
+          (keeps.unlinked is.row.session) keeps.unended unmade (ap is_some (book.served.rows is.row.server row.0 row.1).owner)
+          unended way undoomed slots sends;
       slotted = slotted-keeps script before e S T book.slotted keeps.unlinked keeps.slots p.pool;
-      fresh = fresh-on before e book.fresh (λ makes. keeps.unowned (regular.making makes));
     };
     lawful = record {
       acceptance = λ some. record {
@@ -151,11 +150,13 @@ module _ (script : Script) (before : List Entry) (S : State) (place : ℕ) (t : 
         step = ap (accepts_by d.step) way ∙ is.named;
         server = is.row.server;
         linked = book.slotted.servers is.row.session ∙ linked;
+        same = book.served.same is.row.session is.row.server is.linked;
         accepting = accepting;
-        lasts = sym (book.fresh is.row.server row.0.owner (book.served.rows is.row.server row.0 row.1).owner).ends ∙ unended;
+        lasts = unended;
       };
       finish = λ m some. let a = p.unfinished m in absurd (omega arith);
       end = λ v some. let a = keeps.unended v in absurd (omega arith);
+      renewed = unrenewed before e unmade;
       send =
           λ asked. sent-answer script before S place t d is.row.session is.row.server rows book looked is.linked
           is.accepting (let a = ap accepts p.told in let b = p.none in omega arith)
@@ -217,10 +218,13 @@ module _ (script : Script) (before : List Entry) (S : State) (place : ℕ) (t : 
       accepting : is_closing_in before is.row.server ≡ false
       accepting = closing-told-by script before S is.row.server row.0 book row.1 ∙ (sym (ap closes row.1) ∙ is.accepting)
 
-      unended : ends (effects_of before) is.row.server ≡ 0
+      unended : ends_in before is.row.server ≡ 0
       unended =
-          zero_or (ends (effects_of before) is.row.server)
-          (λ some. let so = book.served.ended is.row.server some in let not_so = is.accepting in absurd (cc))
+          zero_or (ends_in before is.row.server)
+          (λ some. let so = ap closes row.1 ∙ book.served.ended is.row.server row.0 row.1 some in let not_so = is.accepting in absurd (cc))
+
+      unmade : (v : ObjNo) → owner_in (e ∷ []) v ≡ None
+      unmade = unmade-by e (λ makes. keeps.unowned (regular.making makes))
 
       way : status_by e.step (instruction_in script before is.row.client) ≡ status_of_way is.row.way
       way = ap (λ (u : ObjNo). status_by d.step (instruction_in script before u)) is.client ∙ is.way

@@ -1,9 +1,10 @@
--- What the moves of an action do beside fitting: a thread begins requests, sets statuses, waits and wants fast mutexes of its own; whose suspensions and
--- wants end at once is doomed behind that; a call that is queued is declared, or a burial; a server is made as its owner's own, and all else by a
--- handle; no table gets a server, but that of the thread that makes it; messages are sent to servers that aren't closing, taken by a thread at a
--- `receive`, and finished once they are taken, or as their server is closing; and who waits for a message is woken only as one is sent to that server.
-use Rattle.std.proofs.Common.{Bool, List, None, Option, Some, [], length, arith, false, inl, inr, refl, true, ℕ, ◌++◌, ◌<◌, ◌∷◌, ◌≡◌, ◌⊎◌}
-use Rattle.std.specs.Prelude.{is_some, nat_lt, slice_get, ◌==◌}
+-- What the moves of an action do beside fitting: a thread begins requests, sets statuses, waits and wants fast mutexes of its own; who is suspended, or
+-- comes to want one, is live, and nobody's suspensions end before; whose suspensions and wants end at once is doomed behind that, and nobody else is
+-- doomed; a call that is queued is declared, or a burial; a server is made as its owner's own, and all else by a handle; no table gets a server, but
+-- that of the thread that makes it; messages are sent to servers that aren't closing, taken by a thread at a `receive`, and finished once they are
+-- taken, or as their server is closing; and who waits for a message is woken only as one is sent to that server.
+use Rattle.std.proofs.Common.{Bool, List, None, Option, Some, [], arith, false, inl, inr, refl, true, ℕ, ◌+◌, ◌++◌, ◌<◌, ◌≤◌, ◌∷◌, ◌≡◌, ◌⊎◌}
+use Rattle.std.specs.Prelude.{if◌then◌else◌, is_some, nat_lt, slice_get, ◌==◌}
 use Rattle.sym_base.specs.declared.kind.Kind.{Kind}
 use Rattle.sym_base.specs.declared.kind.Kind.TheVariants as kind
 use Rattle.sym_base.specs.declared.number.MsgNo.{MsgNo}
@@ -24,13 +25,16 @@ use Rattle.state_rows.specs.declared.thread.ThreadRow.{ThreadRow}
 use Rattle.state_rows.specs.declared.thread.Waiting.{Waiting}
 use Rattle.state_rows.specs.declared.thread.Waiting.TheVariants as waiting
 use Rattle.machine.specs.EntryWords.{is_handle}
+use Rattle.machine.specs.Moves.{next_object}
 use Rattle.machine.specs.Rows.{object_of, thread_of}
 use Rattle.machine.specs.Task.{instruction}
+use Rattle.machine.specs.Fits.{IsLive}
+use Rattle.machine.specs.declared.death_move.DeathMove.TheVariants.{Doom}
 use Rattle.machine.specs.declared.deferred_move.DeferredMove.TheVariants.{Add, AddFromInterrupt}
 use Rattle.machine.specs.declared.message_move.MessageMove.TheVariants as message
 use Rattle.machine.specs.declared.moves.Move.{Move}
-use Rattle.machine.specs.declared.moves.Move.TheVariants.{Deferred, Gain, Lose, Make, Messages, Nano, Requests, Servers, Wait, Wake}
-use Rattle.machine.specs.declared.nano_move.NanoMove.TheVariants.{Release, Take, Want}
+use Rattle.machine.specs.declared.moves.Move.TheVariants.{Death, Deferred, Gain, Lose, Make, Messages, Nano, Requests, Servers, Wait, Wake}
+use Rattle.machine.specs.declared.nano_move.NanoMove.TheVariants.{Release, Suspend, Take, Want}
 use Rattle.machine.specs.declared.request_move.RequestMove.TheVariants.{Begin, SetPending}
 use Rattle.machine.specs.declared.server_move.ServerMove.TheVariants.{Close, CloseAll, Join, Start}
 use Rattle.machine.specs.References.{total}
@@ -52,14 +56,30 @@ abbrev pub makes_own : List Move → Bool
 makes_own (Make k name (Own t) ∷ ms) = true
 makes_own ms = false
 
--- 1 for a move that joins a session to a server
+-- 1 for a move that makes a session, and for one that joins one to a server
 abbrev pub join_bit : Move → ℕ
+join_bit (Make k name h) = if is_kind kind.Session k then 1 else 0
 join_bit (Servers (Join s o slots u)) = 1
 join_bit m = 0
 
--- who goes on with its instruction in an action, the state before it, and the server of the last message that is sent in it before some moves
+-- 1 for a move by which a thread is suspended, or comes to want a fast mutex
+abbrev pub stop_bit : Move → ℕ
+stop_bit (Nano (Suspend u)) = 1
+stop_bit (Nano (Want u f)) = 1
+stop_bit m = 0
+
+-- 1 for one that stands in the first list of moves of an action alone
+abbrev pub first_bit : Move → ℕ
+first_bit m = join_bit m + stop_bit m
+
+-- what an action did last of what later moves of it need: a message was sent to a server, or a thread's suspensions and wants ended
+pub data Mark : Type 0 where
+  posted : ObjNo → Mark
+  released : ObjNo → Mark
+
+-- who goes on with its instruction in an action, the state before it, and what the action did last before some moves
 abbrev pub Going : Type 0
-Going = Option ObjNo × State × Option ObjNo
+Going = Option ObjNo × State × Option Mark
 
 abbrev pub goes_on : Going → Option ObjNo
 goes_on by = by.0
@@ -67,7 +87,7 @@ goes_on by = by.0
 -- the number of the first object that is made, if somebody goes on
 abbrev pub first_made : Option ObjNo → State → Option ℕ
 first_made None S = None
-first_made (Some t) S = Some (length S.references.objects)
+first_made (Some t) S = Some (next_object S).0
 
 abbrev pub number_made : Going → Option ℕ
 number_made by = first_made by.0 by.1
@@ -78,12 +98,13 @@ stepping S t = (Some t, S, None)
 abbrev pub resting : State → Going
 resting S = (None, S, None)
 
-abbrev pub sent_to : Move → Option ObjNo → Option ObjNo
-sent_to (Messages (message.Accept slots row)) last = Some row.server
-sent_to m last = last
+abbrev pub marked : Move → Option Mark → Option Mark
+marked (Messages (message.Accept slots row)) last = Some (posted row.server)
+marked (Nano (Release u)) last = Some (released u)
+marked m last = last
 
 abbrev pub onward : Going → Move → Going
-onward by m = (by.0, by.1, sent_to m by.2)
+onward by m = (by.0, by.1, marked m by.2)
 
 -- whoever goes on is a thread of this process
 pub record IsOfProcess (on : Option ObjNo) (S : State) (p : ObjNo) : Type 0 where
@@ -111,7 +132,7 @@ IsOther S o = (row : ObjectRow) × (object_of S o ≡ Some row) × (is_kind kind
 -- what a table may get: no server, but that which is made now by the thread of the table
 abbrev pub MayHave : Going → Holder → ObjNo → Type 0
 MayHave by (InProcess p i) o = IsOther by.1 o × IsOfProcess by.0 by.1 p
-MayHave by (InThread u i) o = IsOther by.1 o ⊎ ((o.0 ≡ length by.1.references.objects) × (goes_on by ≡ Some u))
+MayHave by (InThread u i) o = IsOther by.1 o ⊎ ((o.0 ≡ (next_object by.1).0) × (goes_on by ≡ Some u))
 MayHave by h o = Unit {0}
 
 -- the server for whose message a thread waits
@@ -125,7 +146,7 @@ awaited_by (Some row) = message_awaited row.waiting
 
 -- who is woken
 abbrev pub MayWake : Going → ObjNo → Type 0
-MayWake by u = (o : ObjNo) → awaited_by (thread_of by.1 u) ≡ Some o → by.2 ≡ Some o
+MayWake by u = (o : ObjNo) → awaited_by (thread_of by.1 u) ≡ Some o → by.2 ≡ Some (posted o)
 
 -- the steps of a `receive` behind its look
 abbrev pub receiving : Option Instr → Option Part → Bool
@@ -154,15 +175,22 @@ abbrev pub LosesFirst : ObjNo → List Move → Type 0
 LosesFirst o (Lose h x ∷ ms) = (is_handle h ≡ true) × (x ≡ o)
 LosesFirst o ms = ⊥
 
--- a move, with those behind it, in an action
+-- the first of some moves joins the first object that is made to a server
+abbrev pub JoinsFirst : Going → List Move → Type 0
+JoinsFirst by (Servers (Join s o slots u) ∷ ms) = number_made by ≡ Some s.0
+JoinsFirst by ms = ⊥
+
+-- a move, with those behind it, in an action: a session that is made joins a server at once, and is the only one
 abbrev pub IsProper : Script → Going → Move → List Move → Type 0
-IsProper script by (Make k name h) ms = IsMadeBy by k h
+IsProper script by (Make k name h) ms = IsMadeBy by k h × (total join_bit ms ≤ 1) × (is_kind kind.Session k ≡ true → JoinsFirst by ms)
 IsProper script by (Gain h o) ms = MayHave by h o
 IsProper script by (Wait u what) ms = goes_on by ≡ Some u
 IsProper script by (Wake u) ms = MayWake by u
 IsProper script by (Nano (Take u f)) ms = goes_on by ≡ Some u
-IsProper script by (Nano (Want u f)) ms = goes_on by ≡ Some u
+IsProper script by (Nano (Want u f)) ms = (goes_on by ≡ Some u) × IsLive by.1 u × (by.2 ≡ None)
+IsProper script by (Nano (Suspend u)) ms = (is_some (goes_on by) ≡ true) × IsLive by.1 u × (by.2 ≡ None)
 IsProper script by (Nano (Release u)) ms = 0 < total (doomed_bit u) ms
+IsProper script by (Death (Doom u exit)) ms = by.2 ≡ Some (released u)
 IsProper script by (Requests (Begin d u s)) ms = goes_on by ≡ Some u
 IsProper script by (Requests (SetPending u s)) ms = goes_on by ≡ Some u
 IsProper script by (Deferred (Add dfc queue)) ms = IsCalled script dfc
@@ -191,11 +219,34 @@ loses-behind o [] ns h = absurd h
 loses-behind o (Lose h x ∷ ms) ns is = is
 loses-behind o (m ∷ ms) ns h = absurd h
 
+joins-behind : (by : Going) (ms ns : List Move) → JoinsFirst by ms → JoinsFirst by (ms ++ ns)
+joins-behind by [] ns h = absurd h
+joins-behind by (Servers (Join s o slots u) ∷ ms) ns is = is
+joins-behind by (m ∷ ms) ns h = absurd h
+
+joins-later : (on : Option ObjNo) (S : State) (last : Option Mark) (ms : List Move) → JoinsFirst (on, S, None) ms → JoinsFirst (on, S, last) ms
+joins-later on S last [] h = absurd h
+joins-later on S last (Servers (Join s o slots u) ∷ ms) is = is
+joins-later on S last (m ∷ ms) h = absurd h
+
+pub joins-onward : (by : Going) (m : Move) (ms : List Move) → JoinsFirst by ms → JoinsFirst (onward by m) ms
+joins-onward by m [] h = absurd h
+joins-onward by m (Servers (Join s o slots u) ∷ ms) is = is
+joins-onward by m (n ∷ ms) h = absurd h
+
+nobody-first : (S : State) (last : Option Mark) (ms : List Move) → JoinsFirst (None, S, last) ms → ⊥
+nobody-first S last [] h = h
+nobody-first S last (Servers (Join s o slots u) ∷ ms) is = absurd (cc)
+nobody-first S last (m ∷ ms) h = h
+
 proper-behind : (script : Script) (by : Going) (m : Move) (ms ns : List Move) → total join_bit ns ≡ 0
     → IsProper script by m ms → IsProper script by m (ms ++ ns)
+proper-behind script by (Make k name h) ms ns none is =
+    (is.0, (let all = total-append join_bit ms ns in let few = is.1 in omega arith), λ session. joins-behind by ms ns (is.2 session))
 proper-behind script by (Requests (Begin d u s)) ms ns none is = is
 proper-behind script by (Deferred (Add dfc queue)) ms ns none is = is
 proper-behind script by (Nano (Release u)) ms ns none some = let all = total-append (doomed_bit u) ms ns in omega arith
+proper-behind script by (Death (Doom u exit)) ms ns none is = is
 proper-behind script by (Servers (Start o u)) ms ns none is =
     (own-behind ms ns is.0, (let all = total-append join_bit ms ns in let first = is.1 in omega arith), is.2)
 proper-behind script by (Servers (Close o)) ms ns none is = loses-behind o ms ns is
@@ -204,14 +255,22 @@ proper-behind script by (Messages (message.Take o)) ms ns none is = is
 proper-behind script by m ms ns none is = is
 
 -- and behind others
-later-one : (script : Script) (on : Option ObjNo) (S : State) (last : Option ObjNo) (m : Move) (ms : List Move)
-    → IsProper script (on, S, None) m ms → IsProper script (on, S, last) m ms
-later-one script on S last (Nano (Release u)) ms is = is
-later-one script on S last (Servers (Start o u)) ms is = is
-later-one script on S last (Wake u) ms may = λ o is. let none = may o is in absurd (cc)
-later-one script on S last (Requests (Begin d u s)) ms is = is
-later-one script on S last (Deferred (Add dfc queue)) ms is = is
-later-one script on S last (Messages (message.Take o)) ms is = record {
+made-later : (on : Option ObjNo) (S : State) (last : Option Mark) (k : Kind) (h : Holder) → IsMadeBy (on, S, None) k h → IsMadeBy (on, S, last) k h
+made-later on S last k (Own t) is = is
+made-later on S last k (InProcess p i) is = is
+made-later on S last k h is = is
+
+later-one : (script : Script) (on : Option ObjNo) (S : State) (last : Option Mark) (m : Move) (ms : List Move)
+    → stop_bit m ≡ 0 → IsProper script (on, S, None) m ms → IsProper script (on, S, last) m ms
+later-one script on S last (Nano (Release u)) ms none is = is
+later-one script on S last (Nano (Want u f)) ms none is = absurd (omega arith)
+later-one script on S last (Nano (Suspend u)) ms none is = absurd (omega arith)
+later-one script on S last (Death (Doom u exit)) ms none is = absurd (cc)
+later-one script on S last (Servers (Start o u)) ms none is = is
+later-one script on S last (Wake u) ms none may = λ o is. let nobody = may o is in absurd (cc)
+later-one script on S last (Requests (Begin d u s)) ms none is = is
+later-one script on S last (Deferred (Add dfc queue)) ms none is = is
+later-one script on S last (Messages (message.Take o)) ms none is = record {
   thread = is.thread;
   on = is.on;
   row = is.row;
@@ -220,46 +279,67 @@ later-one script on S last (Messages (message.Take o)) ms is = record {
   uses = is.uses;
   at = is.at;
 }
-later-one script on S last (Make k name (InProcess p i)) ms is = is
-later-one script on S last (Gain (InThread u i) o) ms is = is
-later-one script on S last m ms is = is
+later-one script on S last (Make k name h) ms none is = (made-later on S last k h is.0, is.1, λ session. joins-later on S last ms (is.2 session))
+later-one script on S last (Gain (InThread u i) o) ms none is = is
+later-one script on S last m ms none is = is
 
-later : (script : Script) (on : Option ObjNo) (S : State) (last : Option ObjNo) (ms : List Move)
-    → AreProper script (on, S, None) ms → AreProper script (on, S, last) ms
-later script on S last [] are = tt
-later script on S last (Messages (message.Accept slots row) ∷ ms) are = (are.0, are.1)
-later script on S last (m ∷ ms) are = (later-one script on S last m ms are.0, later script on S last ms are.1)
+later : (script : Script) (on : Option ObjNo) (S : State) (last : Option Mark) (ms : List Move)
+    → total first_bit ms ≡ 0 → AreProper script (on, S, None) ms → AreProper script (on, S, last) ms
+later script on S last [] none are = tt
+later script on S last (Messages (message.Accept slots row) ∷ ms) none are = (are.0, are.1)
+later script on S last (Nano (Release u) ∷ ms) none are = (are.0, are.1)
+later script on S last (m ∷ ms) none are = (later-one script on S last m ms (omega arith) are.0, later script on S last ms (omega arith) are.1)
 
-pub proper-then : (script : Script) (by : Going) (ms ns : List Move) → total join_bit ns ≡ 0 → AreProper script by ms
+unjoined : (ms : List Move) → total first_bit ms ≡ 0 → total join_bit ms ≡ 0
+unjoined [] none = refl
+unjoined (m ∷ ms) none = let rest = unjoined ms (omega arith) in omega arith
+
+pub proper-then : (script : Script) (by : Going) (ms ns : List Move) → total first_bit ns ≡ 0 → AreProper script by ms
     → AreProper script (by.0, by.1, None) ns → AreProper script by (ms ++ ns)
-proper-then script by [] ns none are more = later script by.0 by.1 by.2 ns more
-proper-then script by (m ∷ ms) ns none are more = (proper-behind script by m ms ns none are.0, proper-then script (onward by m) ms ns none are.1 more)
+proper-then script by [] ns none are more = later script by.0 by.1 by.2 ns none more
+proper-then script by (m ∷ ms) ns none are more =
+    (proper-behind script by m ms ns (unjoined ns none) are.0, proper-then script (onward by m) ms ns none are.1 more)
 
--- nobody joins sessions where nobody goes on
-nobody-joins : (script : Script) (S : State) (last : Option ObjNo) (m : Move) (ms : List Move) → IsProper script (None, S, last) m ms → join_bit m ≡ 0
+-- nobody joins sessions, is suspended or comes to want a fast mutex where nobody goes on
+nobody-joins : (script : Script) (S : State) (last : Option Mark) (m : Move) (ms : List Move) → IsProper script (None, S, last) m ms → first_bit m ≡ 0
 nobody-joins script S last (Servers (Join s o slots u)) ms is = absurd (cc)
+nobody-joins script S last (Nano (Want u f)) ms is = let none = is.0 in absurd (cc)
+nobody-joins script S last (Nano (Suspend u)) ms is = let none = is.0 in absurd (cc)
+nobody-joins script S last (Make k name h) ms is = by (is_kind kind.Session k) refl
+  where
+    by : (b : Bool) → is_kind kind.Session k ≡ b → ◌≡◌ {A = ℕ} ((if b then 1 else 0) + 0) 0
+    by true session = absurd (nobody-first S last ms (is.2 session))
+    by false other = refl
 nobody-joins script S last m ms is = refl
 
-pub nobody-joined : (script : Script) (S : State) (last : Option ObjNo) (ms : List Move) → AreProper script (None, S, last) ms → total join_bit ms ≡ 0
+pub nobody-joined : (script : Script) (S : State) (last : Option Mark) (ms : List Move) → AreProper script (None, S, last) ms → total first_bit ms ≡ 0
 nobody-joined script S last [] are = refl
 nobody-joined script S last (m ∷ ms) are =
     let one = nobody-joins script S last m ms are.0 in
-    let rest = nobody-joined script S (sent_to m last) ms are.1 in
+    let rest = nobody-joined script S (marked m last) ms are.1 in
     omega arith
 
 -- what is proper by nobody's going on is so by anybody's
-proper-one : (script : Script) (t : ObjNo) (S : State) (last : Option ObjNo) (m : Move) (ms : List Move)
+made-any : (t : ObjNo) (S : State) (last : Option Mark) (k : Kind) (h : Holder) → IsMadeBy (None, S, last) k h → IsMadeBy (Some t, S, last) k h
+made-any t S last k (Own u) is = is
+made-any t S last k (InProcess p i) is = let none = is.2.goes in absurd (cc)
+made-any t S last k h is = is
+
+proper-one : (script : Script) (t : ObjNo) (S : State) (last : Option Mark) (m : Move) (ms : List Move)
     → IsProper script (None, S, last) m ms → IsProper script (Some t, S, last) m ms
-proper-one script t S last (Make k name (InProcess p i)) ms is = let none = is.2.goes in absurd (cc)
+proper-one script t S last (Make k name h) ms is =
+    (made-any t S last k h is.0, is.1, λ session. absurd (nobody-first S last ms (is.2 session)))
 proper-one script t S last (Gain (InProcess p i) o) ms is = let none = is.1.goes in absurd (cc)
 proper-one script t S last (Wait u what) ms is = absurd (cc)
 proper-one script t S last (Nano (Take u f)) ms is = absurd (cc)
-proper-one script t S last (Nano (Want u f)) ms is = absurd (cc)
+proper-one script t S last (Nano (Want u f)) ms is = let none = is.0 in absurd (cc)
+proper-one script t S last (Nano (Suspend u)) ms is = let none = is.0 in absurd (cc)
 proper-one script t S last (Requests (Begin d u s)) ms is = absurd (cc)
 proper-one script t S last (Requests (SetPending u s)) ms is = absurd (cc)
 proper-one script t S last (Servers (Start o u)) ms is = let none = is.2 in absurd (cc)
 proper-one script t S last (Servers (Join s o slots u)) ms is = absurd (cc)
 proper-one script t S last (Messages (message.Take o)) ms is = let none = is.on in absurd (cc)
+proper-one script t S last (Death (Doom u exit)) ms is = is
 proper-one script t S last (Deferred (Add dfc queue)) ms is = is
 proper-one script t S last (Gain (InThread u i) o) ms is = elim is as (λ _. MayHave (Some t, S, last) (InThread u i) o) [
   | inl other ↦ inl other
@@ -267,10 +347,10 @@ proper-one script t S last (Gain (InThread u i) o) ms is = elim is as (λ _. May
 ]
 proper-one script t S last m ms is = is
 
-pub proper-any : (script : Script) (t : ObjNo) (S : State) (last : Option ObjNo) (ms : List Move)
+pub proper-any : (script : Script) (t : ObjNo) (S : State) (last : Option Mark) (ms : List Move)
     → AreProper script (None, S, last) ms → AreProper script (Some t, S, last) ms
 proper-any script t S last [] are = tt
-proper-any script t S last (m ∷ ms) are = (proper-one script t S last m ms are.0, proper-any script t S (sent_to m last) ms are.1)
+proper-any script t S last (m ∷ ms) are = (proper-one script t S last m ms are.0, proper-any script t S (marked m last) ms are.1)
 
 -- who waits for no message may be woken; and who waits for one of a server to which one was sent
 pub wakes-other : (by : Going) (u : ObjNo) → awaited_by (thread_of by.1 u) ≡ None → MayWake by u

@@ -53,7 +53,7 @@ use Rattle.machine.specs.declared.plan.Body.{Body}
 use Rattle.machine.specs.declared.plan.Body.TheVariants as body
 use Rattle.machine.specs.declared.request_move.RequestMove.TheVariants.{Complete}
 use Rattle.machine.specs.declared.state.State.{State}
-use Rattle.machine_safe.proofs.Serving.Proper.{AreProper, Going, IsCalled, IsMadeBy, IsOfProcess, IsProper, MayGive, MayWake, awaited_by, is_kind, message_awaited, nobody-joined, proper-then, resting, wakes-other}
+use Rattle.machine_safe.proofs.Serving.Proper.{AreProper, Going, IsCalled, IsMadeBy, IsOfProcess, IsProper, MayGive, MayWake, awaited_by, is_kind, message_awaited, nobody-joined, posted, proper-then, resting, wakes-other}
 use Rattle.move_laws.proofs.Lists.Cases.{if_cases}
 use Rattle.move_laws.proofs.References.Same.{same_self}
 use Rattle.std.proofs.lemmas.List.Quantifiers.{position-Some}
@@ -150,13 +150,13 @@ wakes-where script by u false may = tt
 
 -- who waits for a message of a server is woken behind the acceptance of one
 pub proper-wake_row : (script : Script) (S : State) (o u : ObjNo) (row : Option ThreadRow) → thread_of S u ≡ row
-    → AreProper script (None, S, Some o) (wake_row o u row)
+    → AreProper script (None, S, Some (posted o)) (wake_row o u row)
 proper-wake_row script S o u None is = tt
 proper-wake_row script S o u (Some row) is =
-    wakes-where script (None, S, Some o) u (is_receiving o row.waiting)
-    (λ on x waits. sym (receiver-is o row.waiting on) ∙ (sym (ap awaited_by is) ∙ waits))
+    wakes-where script (None, S, Some (posted o)) u (is_receiving o row.waiting)
+    (λ on x waits. let both : Some o ≡ Some x = sym (receiver-is o row.waiting on) ∙ (sym (ap awaited_by is) ∙ waits) in cc)
 
-pub proper-wake : (script : Script) (S : State) (o : ObjNo) (owner : Option ObjNo) → AreProper script (None, S, Some o) (wake_receiver S o owner)
+pub proper-wake : (script : Script) (S : State) (o : ObjNo) (owner : Option ObjNo) → AreProper script (None, S, Some (posted o)) (wake_receiver S o owner)
 proper-wake script S o None = tt
 proper-wake script S o (Some u) = proper-wake_row script S o u (thread_of S u) refl
 
@@ -198,9 +198,9 @@ module _ (script : Script) (S : State) where
   pub proper-doom : (u : ObjNo) (exit : Exit) → Proper (doom u exit)
   proper-doom u exit =
       let one = same_self u in
-      let released : 0 < 0 + (0 + (0 + (same u u + 0))) = omega arith in
+      let behind : 0 < 0 + (0 + (0 + (same u u + 0))) = omega arith in
       let closed : 0 < same u u + 0 = omega arith in
-      (tt, (released, (tt, (tt, (closed, (tt, tt))))))
+      (tt, (behind, (tt, (tt, (closed, (refl, tt))))))
 
   pub proper-doom_or_note : (X : State) (u : ObjNo) (exit : Exit) → Proper (doom_or_note X u exit)
   proper-doom_or_note X u exit = if_cases Proper (is_protected X.synchronization.nano u) _ _ (λ _. (tt, tt)) (λ _. proper-doom u exit)

@@ -118,7 +118,7 @@ module _ (script : Script) (S : State) (shaped : IsShaped script) (rows : AreRow
     missed w o false = (tt, tt)
 
     returned : (old : ThreadRow) (w : Word) (to : Part) → Proper (return_to S t old w to)
-    returned old w to = if_cases Proper (is_open (object_of S (found_object old))) _ _ (λ _. (tt, tt)) (λ _. missed w (found_object old) (is_live old.stage))
+    returned old w to = if_cases Proper (is_open old.sought (object_of S (found_object old))) _ _ (λ _. (tt, tt)) (λ _. missed w (found_object old) (is_live old.stage))
 
     return-proper : (old : ThreadRow) (i : Instr) → Proper (return_of S t old i)
     return-proper old (instr.Open kind name x) = returned old word.Open part.Do

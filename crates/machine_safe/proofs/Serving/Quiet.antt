@@ -186,7 +186,7 @@ pay-lost script S t (Close h o) rest v rows owes =
     (EachMayOwe S.references.threads S.serving.servers S.serving.messages.accepted t.0) owes
     (rows.references.duties.own t.0)).0)
   where
-    by : (g : Holder) → MayOwe S.references.threads S.serving.servers S.serving.messages.accepted t.0 g o → is_handle g ≡ false
+    by : (g : Holder) → MayOwe S.references.threads S.serving.servers S.serving.messages.accepted t.0 g o rest → is_handle g ≡ false
     by (InProcess p i) may = absurd may
     by (InThread u i) may = absurd may
     by _ may = refl

@@ -3,7 +3,7 @@ use Rattle.entry_log.specs.declared.step.Part.{Part}
 use Rattle.entry_log.specs.declared.step.Step.TheVariants.{Of}
 use Rattle.machine.specs.Decide.{answer}
 use Rattle.machine.specs.Handles.{holder_of, thread_handle}
-use Rattle.machine.specs.Messaging.{connects, no_args, open_server, post, slots_of, wake_receiver}
+use Rattle.machine.specs.Messaging.{connects, no_args, open_server, post, server_to_open, slots_of, wake_receiver}
 use Rattle.machine.specs.Moves.{next_object, no_number_left, tell}
 use Rattle.machine.specs.References.{total, same}
 use Rattle.machine.specs.SessionCalls.{args_of, call_do, call_step, call_to, connect_done, connect_make, connect_send, connect_step, connect_to, fail_connect, make_session, send_connect, send_do, send_step, send_to, session_made}
@@ -30,7 +30,8 @@ use Rattle.state_rows.specs.MessageRows.{is_full, is_async}
 use Rattle.state_rows.specs.Nano.{held_by}
 use Rattle.state_rows.specs.ObjectRows.{named}
 use Rattle.state_rows.specs.Requests.{is_pending, reply_of}
-use Rattle.state_rows.specs.ServerRows.{accepts, is_closing, owner_of, server_at, server_of}
+use Rattle.state_rows.specs.declared.thread.Stage.TheVariants.{Live}
+use Rattle.state_rows.specs.ServerRows.{accepts, is_closing, is_to_open, owner_of, server_at, server_of, session_at}
 use Rattle.state_rows.specs.declared.messages.Way.{Way}
 use Rattle.state_rows.specs.declared.messages.Way.TheVariants.{Async, Sync}
 use Rattle.state_rows.specs.declared.servers.ServerRow.{ServerRow}
@@ -157,16 +158,23 @@ deed-send_to S t at live P s x function y args (Some o) over here e each = if_ca
 
 pub deed-send : (S : State) (t : ObjNo) (at : Option Instr) (live : IsLiveThread S.references.threads t)
     (P : Decision → Type 0) (row : ThreadRow) (x function y : ℕ) (args : Args) (p : Part)
-    → thread_of S t ≡ Some row → at ≡ Some (instr.Send x function y args) → OfEach S t at P
+    → thread_of S t ≡ Some row → row.stage ≡ Live → row.part ≡ Some p → at ≡ Some (instr.Send x function y args) → OfEach S t at P
     → P (send_step S t row x function y args (Some p))
-deed-send S t at live P row x function y args part.Done is here each = calm each _ refl refl
-deed-send S t at live P row x function y args p is here each = by row.uses refl
+deed-send S t at live P row x function y args part.Done is lives begun here each = calm each _ refl refl
+deed-send S t at live P row x function y args p is lives begun here each = by row.uses refl
   where
     by : (uses : Option ObjNo) → row.uses ≡ uses → P (send_do S t (pos function) y (args_of args) uses)
     by None e = calm each _ refl refl
     by (Some s) e = if_cases P (is_pending S.synchronization.requests t y) _ _
         (λ _. calm each _ refl refl)
-        (λ _. deed-send_to S t at live P s x function y args (open_server S s) (record { here = ap at_send here; row = row; is = is; uses = e }) here refl each)
+        (λ _. deed-send_to S t at live P s x function y args (open_server S s) (record {
+          here = ap at_send here;
+          row = row;
+          is = is;
+          live = lives;
+          begun = ap is_some begun;
+          uses = e;
+        }) here refl each)
 
 -- `call`
 deed-call_to : (S : State) (t : ObjNo) (at : Option Instr) (live : IsLiveThread S.references.threads t)
@@ -261,17 +269,25 @@ deed-failed S t at P row s code p none unsent each = each.keeps _ (record {
   send = λ sends. absurd (cc);
 })
 
+-- a session that is to be opened at a server is one at that
+pub to-open-is : (S : State) (s o : ObjNo) → server_to_open S s ≡ Some o → open_server S s ≡ Some o
+to-open-is S s o e = by (is_to_open (session_at S.serving.servers s)) e
+  where
+    by : (b : Bool) → (if b then open_server S s else None) ≡ Some o → open_server S s ≡ Some o
+    by true e = e
+    by false e = absurd (cc)
+
 deed-connecting : (S : State) (t : ObjNo) (at : Option Instr) (live : IsLiveThread S.references.threads t)
     (P : Decision → Type 0) (row : ThreadRow) (s : ObjNo) (server : Option ObjNo)
     → server_at S.serving.servers s ≡ None → status_by (Of word.Connect part.Send) at ≡ Some status.Sync
-    → open_server S s ≡ server → OfEach S t at P → P (send_connect S t row s server)
+    → server_to_open S s ≡ server → OfEach S t at P → P (send_connect S t row s server)
 deed-connecting S t at live P row s None none told e each = deed-failed S t at P row s _ part.Send none refl each
 deed-connecting S t at live P row s (Some o) none told e each =
     each.sends _ (sending (send_connect S t row s (Some o))
     (GoOn t part.Done ∷ Servers (SetOpen s true) ∷ Wait t waiting.Reply ∷ []) [] s o connects no_args Sync
     (ap (λ (ms : List Move). GoOn t part.Done ∷ Servers (SetOpen s true) ∷ Wait t waiting.Reply ∷ Messages
     (Accept (slots_of S s) (new_row s o t connects no_args Sync)) ∷ ms)
-    (sym (append-nil (wake_receiver S o (owner_of S.serving.servers o))))) refl refl refl refl e told (λ _. live) refl
+    (sym (append-nil (wake_receiver S o (owner_of S.serving.servers o))))) refl refl refl refl (to-open-is S s o e) told (λ _. live) refl
     (λ v some. let wakes = lost-none v (wake_receiver S o (owner_of S.serving.servers o))
     ((tame-wake {k = plain} S o (owner_of S.serving.servers o)).calm refl) in
     let rest = total-append (lost_bit v) (wake_receiver S o (owner_of S.serving.servers o)) [] in absurd (omega arith))
@@ -284,7 +300,7 @@ deed-connect_send : (S : State) (t : ObjNo) (at : Option Instr) (live : IsLiveTh
 deed-connect_send S t at live P row None others told each = calm each _ refl refl
 deed-connect_send S t at live P row (Some s) others told each = if_cases P (is_some (held_by S.synchronization.nano t)) _ _
     (λ _. calm each _ refl refl)
-    (λ _. deed-connecting S t at live P row s (open_server S s) (others s refl) told refl each)
+    (λ _. deed-connecting S t at live P row s (server_to_open S s) (others s refl) told refl each)
 
 deed-connect_done : (S : State) (t : ObjNo) (at : Option Instr) (P : Decision → Type 0) (row : ThreadRow) (x : ℕ)
     (session : Option ObjNo)

@@ -7,7 +7,7 @@ use Rattle.machine.specs.Moves.{unlinked}
 use Rattle.machine.specs.declared.state.State.{State}
 use Rattle.machine_safe.proofs.Serving.Keeps.{WasSession}
 use Rattle.machine_safe.proofs.Serving.Quiet.{Post, post_of}
-use Rattle.machine_safe.proofs.Serving.Reading.{effects-push}
+use Rattle.machine_safe.proofs.Serving.Since.{effects-push, link-push}
 use Rattle.machine_safe.specs.CountAfter.{effects_of}
 use Rattle.machine_safe.specs.Sent.{accepts, finishes}
 use Rattle.machine_safe.specs.Served.{link_by, makes_session, or_before, server_in, server_told}
@@ -28,7 +28,7 @@ use Rattle.std.specs.Prelude.{Contains, filter, if◌then◌else◌, is_some, no
 use Rattle.sym_base.specs.declared.kind.Slots.{Slots}
 use Rattle.sym_base.specs.declared.number.MsgNo.{MsgNo}
 use Rattle.sym_base.specs.declared.number.ObjNo.{ObjNo}
-use Rattle.machine_safe.proofs.Serving.EffectSums.{finishes-append, or-none, or-three, server_told-append}
+use Rattle.machine_safe.proofs.Serving.EffectSums.{finishes-append, server_told-append}
 use Rattle.std.proofs.lemmas.List.Elements.{filter-append}
 use Rattle.machine.specs.EntryWords.{is_send}
 
@@ -64,10 +64,6 @@ link-none e s none = by (makes_session e.step)
 
 pub link-made : (e : Entry) (s : ObjNo) → makes_session e.step ≡ true → link_by e s ≡ server_told e.effects s
 link-made e s makes = ap (λ (b : Bool). if b then server_told e.effects s else None) makes
-
-link-push : (before : List Entry) (e : Entry) (s : ObjNo) → server_in (before ++ e ∷ []) s ≡ or_before (link_by e s) (server_in before s)
-link-push [] e s = sym (or-none (link_by e s))
-link-push (x ∷ xs) e s = ap (λ (o : Option ObjNo). or_before o (link_by x s)) (link-push xs e s) ∙ or-three (link_by e s) (server_in xs s) (link_by x s)
 
 -- So a session's link is told where it is made alone.
 pub links-told : (before : List Entry) (e : Entry) (s : ObjNo) → server_in before s ≡ server_told (effects_of before) s

@@ -1,6 +1,6 @@
 -- What moves of others leave of a thread at a `receive`: its server stays its own, and closing or not, as it was; and where the thread waited for a
 -- message it does so still, or one is there.
-use Rattle.std.proofs.Common.{Bool, List, None, Option, Some, [], ap, arith, false, get_or, get_or-set_other, inl, inr, length, not, refl, subst, sym, true, ℕ, ◌+◌, ◌<◌, ◌≤◌, ◌∙◌, ◌∷◌, ◌≡◌, ◌⊎◌}
+use Rattle.std.proofs.Common.{Bool, List, None, Option, Some, [], ap, arith, false, get_or, get_or-set_other, inl, inr, not, refl, subst, sym, true, ℕ, ◌+◌, ◌<◌, ◌≤◌, ◌∙◌, ◌∷◌, ◌≡◌, ◌⊎◌}
 use Rattle.std.proofs.lemmas.Bool.{and_parts, cases_eq, cases_lt, eqb-true}
 use Rattle.std.specs.Prelude.{Contains, if◌then◌else◌, is_some, option_map}
 use Rattle.sym_base.specs.declared.number.MsgNo.{MsgNo}
@@ -17,20 +17,23 @@ use Rattle.state_rows.specs.declared.servers.ServerRow.{ServerRow}
 use Rattle.state_rows.specs.declared.servers.ServerRows.{ServerRows}
 use Rattle.state_rows.specs.declared.thread.ThreadRow.{ThreadRow}
 use Rattle.state_rows.specs.declared.thread.Waiting.TheVariants as waiting
+use Rattle.state_rows.specs.ObjectRows.{place_of}
 use Rattle.machine.specs.DeathMoves.{death_row}
 use Rattle.machine.specs.EntryWords.{is_handle}
 use Rattle.machine.specs.Fits.{EachFits, FitsMove, Holds, IsOwn}
 use Rattle.machine.specs.Kept.{dies}
 use Rattle.machine.specs.Moves.{advanced, moved, next_object, perform, threads_closed, threads_gain, threads_lose, unlinked, with_found, with_kept, with_message, with_missed, with_opened, with_part, with_priority, with_register, with_use, with_waiting}
 use Rattle.machine.specs.References.{same, total}
-use Rattle.machine.specs.Rows.{thread_of, with_row}
+use Rattle.machine.specs.Rows.{object_of, thread_of, with_row}
+use Rattle.machine_safe.proofs.Serving.KeptRows.{next-unmade}
 use Rattle.machine.specs.ServerMoves.{all_closing, owned_by, servers_lose}
 use Rattle.machine.specs.Serving.{times_owned}
 use Rattle.machine.specs.WellFormed.{AreRows}
 use Rattle.machine.specs.declared.death_move.DeathMove.TheVariants.{Bury, Clean, Doom, Note}
 use Rattle.machine.specs.declared.message_move.MessageMove.TheVariants as message
 use Rattle.machine.specs.declared.moves.Move.{Move}
-use Rattle.machine.specs.declared.moves.Move.TheVariants.{Advance, Copies, Death, Find, Gain, GoOn, Keep, Lose, Make, Messages, Miss, Open, Pay, PutDown, Servers, SetPriority, Wait, Wake, Write, WriteMessage}
+use Rattle.machine.specs.declared.nano_move.NanoMove.TheVariants.{Release}
+use Rattle.machine.specs.declared.moves.Move.TheVariants.{Advance, Copies, Death, Find, Gain, GoOn, Keep, Lose, Make, Messages, Miss, Nano, Open, Pay, PutDown, Servers, SetPriority, Wait, Wake, Write, WriteMessage}
 use Rattle.machine.specs.declared.server_move.ServerMove.TheVariants.{Close, CloseAll, Join, Start}
 use Rattle.machine.specs.declared.state.State.{State}
 use Rattle.machine_laws.proofs.Fitting.Regular.{doomed_bit, going_bit}
@@ -39,19 +42,19 @@ use Rattle.machine_safe.proofs.Serving.Coming.{WasSent, WereSent, all-has, await
 use Rattle.machine_safe.proofs.Serving.Doing.{IsGoing, going-then}
 use Rattle.machine_safe.proofs.Serving.Letters.{same_number}
 use Rattle.machine_safe.proofs.Serving.Owning.{OwnBefore, before-move}
-use Rattle.machine_safe.proofs.Serving.Proper.{AreProper, IsProper, IsTaking, LosesFirst, MayFinish, MayWake, awaited_by, first_made, sent_to}
+use Rattle.machine_safe.proofs.Serving.Proper.{AreProper, IsProper, IsTaking, LosesFirst, MayFinish, MayWake, Mark, awaited_by, first_made, marked, posted}
 use Rattle.move_laws.proofs.Lists.Contents.{found_there}
 use Rattle.move_laws.proofs.MoveLaws.CopyMoves.{copy_accepts}
 use Rattle.move_laws.proofs.References.Same.{same_object, same_self}
 
 -- in the middle of an action: the server that a thread owns, how many of its messages aren't taken, and, where the thread waited for one or one was
 -- there, so it is still
-pub record IsMidst (C : Type 0) (u o : ObjNo) (on : Option ObjNo) (S : State) (last : Option ObjNo) (M : State) : Type 0 where
+pub record IsMidst (C : Type 0) (u o : ObjNo) (on : Option ObjNo) (S : State) (last : Option Mark) (M : State) : Type 0 where
   pub owner : owner_of M.serving.servers o ≡ Some u
   pub closing : is_closing M.serving.servers o ≡ is_closing S.serving.servers o
   pub were : WereSent S.serving.messages M.serving.messages
   pub accepted : S.serving.messages.accepted ≤ M.serving.messages.accepted
-  pub sent : last ≡ Some o → (0 < total (untaken_bit o) M.serving.messages.outstanding) × (is_closing S.serving.servers o ≡ false)
+  pub sent : last ≡ Some (posted o) → (0 < total (untaken_bit o) M.serving.messages.outstanding) × (is_closing S.serving.servers o ≡ false)
   pub came : C
       → ((awaited_by (thread_of M u) ≡ Some o) × (awaited_by (thread_of S u) ≡ Some o))
       ⊎ ((0 < total (untaken_bit o) M.serving.messages.outstanding) × (is_closing S.serving.servers o ≡ false))
@@ -71,21 +74,21 @@ lost-server : (h : Holder) (r : ServerRows) (o : ObjNo) → server_at (servers_l
 lost-server (Link s) r o = refl
 lost-server h r o = refl
 
-made-number : (on : Option ObjNo) (S : State) (n : ℕ) → first_made on S ≡ Some n → n ≡ length S.references.objects
+made-number : (on : Option ObjNo) (S : State) (n : ℕ) → first_made on S ≡ Some n → n ≡ (next_object S).0
 made-number None S n e = absurd (cc)
-made-number (Some t) S n e = let same : length S.references.objects ≡ n = cc in sym same
+made-number (Some t) S n e = let same : (next_object S).0 ≡ n = cc in sym same
 
 owner-row : (x : Option ServerRow) (u : ObjNo) → option_map (λ (row : ServerRow). row.owner) x ≡ Some u → (row : ServerRow) × (x ≡ Some row) × (row.owner ≡ u)
 owner-row None u e = absurd (cc)
 owner-row (Some row) u e = (row, refl, cc)
 
 module _ (script : Script) (C : Type 0) (u o : ObjNo) (on : Option ObjNo) (S : State) (t : ObjNo)
-    (before : AreRows script S) (made : o.0 < length S.references.objects) (apart : on ≡ Some u → ⊥)
-    (takes : (last : Option ObjNo) → IsTaking script (on, S, last) o → ⊥) where
-  abbrev Midst : Option ObjNo → State → Type 0
+    (before : AreRows script S) (made : is_some (object_of S o) ≡ true) (apart : on ≡ Some u → ⊥)
+    (takes : (last : Option Mark) → IsTaking script (on, S, last) o → ⊥) where
+  abbrev Midst : Option Mark → State → Type 0
   Midst last M = IsMidst C u o on S last M
 
-  module _ (last : Option ObjNo) (M : State) (rows : AreRows script M) (there : is_some (thread_of M u) ≡ true) where
+  module _ (last : Option Mark) (M : State) (rows : AreRows script M) (there : is_some (thread_of M u) ≡ true) where
     -- a handle of a server is closed by its owner
     closes-apart : (x : ObjNo) (ms : List Move) → EachFits script t ms (moved t (Servers (Close x)) M) → LosesFirst x ms
         → OwnBefore (on, S, last) M (Servers (Close x) ∷ ms) → owner_of M.serving.servers o ≡ Some u
@@ -121,11 +124,13 @@ module _ (script : Script) (C : Type 0) (u o : ObjNo) (on : Option ObjNo) (S : S
     server-move (Servers (Start x w)) ms fits rest proper q owner stays undoomed =
         same-row o M.serving.servers (moved t (Servers (Start x w)) M).serving.servers
         (get_or-set_other M.serving.servers.servers x.0 o.0 (Some (record { owner = w; is_closing = false })) None
-        (λ at. let next = ap (λ (z : ObjNo). z.0) fits.next in let long = q.long in absurd (omega arith)))
+        (λ at. next-unmade M (ap (λ (n : ℕ). is_some (get_or M.references.objects n None)) (sym (at ∙ ap (λ (z : ObjNo). z.0) fits.next))
+        ∙ q.stays o made)))
     server-move (Servers (Join s x slots w)) ms fits rest proper q owner stays undoomed =
         let number = made-number on S s.0 proper in
         same-row o M.serving.servers (moved t (Servers (Join s x slots w)) M).serving.servers
-        (get_or-set_other M.serving.servers.servers s.0 o.0 None None (λ at. absurd (omega arith)))
+        (get_or-set_other M.serving.servers.servers s.0 o.0 None None
+        (λ at. next-unmade S (ap (λ (n : ℕ). is_some (get_or S.references.objects n None)) (sym (at ∙ number)) ∙ made)))
     server-move (Servers (Close x)) ms fits rest proper q owner stays undoomed =
         same-row o M.serving.servers (moved t (Servers (Close x)) M).serving.servers
         (get_or-set_other M.serving.servers.servers x.0 o.0 (option_map closing (server_at M.serving.servers x)) None
@@ -178,7 +183,7 @@ module _ (script : Script) (C : Type 0) (u o : ObjNo) (on : Option ObjNo) (S : S
     waits-move (Make k name h) ms fits proper undoomed = inl (gained h (next_object M))
     waits-move (Gain h x) ms fits proper undoomed = inl (gained h x)
     waits-move (Lose h x) ms fits proper undoomed = inl (closed (dies M x) x (threads_lose h M.references.threads) ∙ lost h)
-    waits-move (Find v x) ms fits proper undoomed = inl (row v (with_found x) (λ r. refl))
+    waits-move (Find v x) ms fits proper undoomed = inl (row v (with_found x (place_of (object_of M x))) (λ r. refl))
     waits-move (Open v x q) ms fits proper undoomed = inl (row v (with_opened x q) (λ r. refl))
     waits-move (Miss v x) ms fits proper undoomed = inl (row v with_missed (λ r. refl))
     waits-move (GoOn v q) ms fits proper undoomed = inl (row v (with_part q) (λ r. refl))
@@ -286,7 +291,7 @@ module _ (script : Script) (C : Type 0) (u o : ObjNo) (on : Option ObjNo) (S : S
 
     -- one that is sent is there
     sent-move : (m : Move) (ms : List Move) → FitsMove script t m M → IsProper script (on, S, last) m ms → Midst last M
-        → sent_to m last ≡ Some o → (0 < total (untaken_bit o) (moved t m M).serving.messages.outstanding)
+        → marked m last ≡ Some (posted o) → (0 < total (untaken_bit o) (moved t m M).serving.messages.outstanding)
         × (is_closing S.serving.servers o ≡ false)
     sent-move (Messages (message.Accept slots new)) ms fits proper q e =
         let server : new.server ≡ o = cc in
@@ -295,6 +300,7 @@ module _ (script : Script) (C : Type 0) (u o : ObjNo) (on : Option ObjNo) (S : S
         (omega arith, ap (is_closing S.serving.servers) (sym server) ∙ proper)
     sent-move (Messages (message.Take v)) ms fits proper q e = let was = q.sent e in
         (messages-move (Messages (message.Take v)) ms fits proper q.were was.1 was.0, was.1)
+    sent-move (Nano (Release v)) ms fits proper q e = absurd (cc)
     sent-move m ms fits proper q e = let was = q.sent e in (messages-move m ms fits proper q.were was.1 was.0, was.1)
 
     came-move : (m : Move) (ms : List Move) → FitsMove script t m M → IsProper script (on, S, last) m ms
@@ -320,7 +326,7 @@ module _ (script : Script) (C : Type 0) (u o : ObjNo) (on : Option ObjNo) (S : S
     pub midst-move : (m : Move) (ms : List Move) → FitsMove script t m M → EachFits script t ms (moved t m M)
         → IsProper script (on, S, last) m ms → OwnBefore (on, S, last) M (m ∷ ms)
         → (t.0 ≡ u.0 → total going_bit (m ∷ ms) ≡ 0) → total (doomed_bit u) (m ∷ ms) ≡ 0 → Midst last M
-        → Midst (sent_to m last) (moved t m M)
+        → Midst (marked m last) (moved t m M)
     midst-move m ms fits rest proper q stays undoomed h =
         let server = server-move m ms fits rest proper q h.owner stays undoomed in
         let long = accepted-move m fits in
@@ -335,14 +341,14 @@ module _ (script : Script) (C : Type 0) (u o : ObjNo) (on : Option ObjNo) (S : S
         }
 
   -- several moves
-  pub midst-each : (last : Option ObjNo) (M : State) (ms : List Move) → IsGoing script M t ms
+  pub midst-each : (last : Option Mark) (M : State) (ms : List Move) → IsGoing script M t ms
       → AreProper script (on, S, last) ms → OwnBefore (on, S, last) M ms → (t.0 ≡ u.0 → total going_bit ms ≡ 0)
       → total (doomed_bit u) ms ≡ 0 → (row : ThreadRow) → thread_of (perform t ms M) u ≡ Some row → Midst last M
-      → (last : Option ObjNo) × Midst last (perform t ms M)
+      → (last : Option Mark) × Midst last (perform t ms M)
   midst-each last M [] goes proper q stays undoomed row is h = (last, h)
   midst-each last M (m ∷ ms) goes proper q stays undoomed row is h =
       let was = (each-dies script M t (m ∷ ms) goes.each goes.few goes.sane).were u.0 row is in
-      midst-each (sent_to m last) (moved t m M) ms (going-then script M t m ms goes) proper.1
+      midst-each (marked m last) (moved t m M) ms (going-then script M t m ms goes) proper.1
       (before-move script (on, S, last) M t goes.sane.rows m ms goes.each.0 proper.0 q)
       (λ at. let none = stays at in omega arith) (omega arith) row is
       (midst-move last M goes.sane.rows (ap is_some was.was) m ms goes.each.0 goes.each.1 proper.0 q stays undoomed h)

@@ -28,12 +28,11 @@ use Rattle.machine_safe.proofs.Serving.Quiet.{IsQuiet, Post, lost-each, post_of,
 use Rattle.machine_safe.proofs.Serving.Reading.{IsSame, Reading, further, reading, same-both, same-entry, same-then}
 use Rattle.machine_safe.proofs.Serving.Served.{Served, served-keeps, served-made, served-same}
 use Rattle.machine_safe.proofs.Serving.Told.{unlinking-close}
-use Rattle.machine_safe.proofs.Serving.Since.{fresh-on}
-use Rattle.machine_safe.proofs.Serving.Turns.{closing-told-by, Book, IsTurn, counts, entry_for, unserving}
+use Rattle.machine_safe.proofs.Serving.Turns.{closing-told-by, Book, IsTurn, counts, entry_for, unmade-by, unrenewed, unserving}
 use Rattle.machine_safe.specs.CountAfter.{effects_of}
 use Rattle.machine_safe.specs.SafeMessages.{NothingLeft}
 use Rattle.machine_safe.specs.Sent.{finishes}
-use Rattle.machine_safe.specs.Served.{ends, or_before, server_told}
+use Rattle.machine_safe.specs.Served.{ends, ends_in, or_before, owner_in, server_told}
 use Rattle.move_laws.proofs.Lists.Contents.{contains_behind, contains_cases, contains_first, contains_map, none_contained}
 use Rattle.move_laws.proofs.References.Same.{eqb_apart, if_not, if_zero, same_is, same_self}
 use Rattle.move_laws.proofs.Lives.LivesMove.{zero_or}
@@ -83,15 +82,18 @@ module _ (script : Script) (before : List Entry) (S : State) (place : ℕ) (t : 
   turn-closes d regular is does = record {
     book = record {
       served = served-same script r2 (reading (before ++ e ∷ [])) (perform t d.moves S) same whole;
-      letters = letters-quiet script before S (perform t d.moves S) e book.letters (λ p among. unlinked p.session) q (λ p among. unended p.server);
+      letters = letters-quiet script before S (perform t d.moves S) e book.letters (λ p among. unlinked p.session) q
+          (λ p among. unended p.server) (λ p among. unmade p.server);
       slotted = slotted-keeps script before e S (perform t d.moves S) book.slotted unlinked slots q.pool;
-      fresh = fresh-on before e book.fresh (λ makes. let none = is.makes in absurd (cc));
     };
-    lawful = unserving script before e q.accepts q.finishes unended (λ sends. let unsent = is.unsent in absurd (cc));
+    lawful = unserving script before e q.accepts q.finishes unended (λ sends. let unsent = is.unsent in absurd (cc)) (unrenewed before e unmade);
   }
     where
       e : Entry
       e = entry_for place t S d
+
+      unmade : (v : ObjNo) → owner_in (e ∷ []) v ≡ None
+      unmade = unmade-by e (λ makes. let none = is.makes in absurd (cc))
 
       v : ObjNo
       v = is.server
@@ -160,7 +162,7 @@ module _ (script : Script) (before : List Entry) (S : State) (place : ℕ) (t : 
           (subst (λ (l : List Effect). IsSame r2
           (further (reading before) d.step l (λ k. steps_of t (Lose is.holder is.server ∷ []) k + steps_of t back k)))
           (sym told_all) (same-both (reading before) d.step fs gs (steps_of t (Lose is.holder is.server ∷ []))
-          (steps_of t back)))
+          (steps_of t back) (λ makes. let none = is.makes in absurd (cc))))
           (same-entry before e (λ k. steps_of t (Lose is.holder is.server ∷ []) k + steps_of t back k)
           (λ k. let a = counts t back d k (let b = regular.answers in let c = ap (total advance_bit) is.moves in
           omega arith) in let none = if_zero (t.0 == k) (total advance_bit (Lose is.holder is.server ∷ [])) refl in
@@ -194,12 +196,11 @@ module _ (script : Script) (before : List Entry) (S : State) (place : ℕ) (t : 
           (λ p among. let a = ended p.server in
           let none : same_bit is.server p.server
           ≡ 0 = if_not (is.server.0 == p.server.0) 1 (eqb_apart is.server.0 p.server.0 (λ at. left p among (sym at))) in
-          omega arith);
+          omega arith) (λ p among. unmade p.server);
       slotted = slotted-keeps script before e S (perform t d.moves S) book.slotted unlinked
           (λ s row is_row. session-closed (dies (moved t (Servers (End is.server)) S) is.server) is.server
           S.serving.servers s row (ap (λ (l : List Move). session_at (perform t l S).serving.servers s) (sym is.moves)
           ∙ is_row)) q.pool;
-      fresh = fresh-on before e book.fresh (λ makes. let none = is.makes in absurd (cc));
     };
     lawful = record {
       acceptance = λ some. let a = q.accepts in absurd (omega arith);
@@ -208,12 +209,16 @@ module _ (script : Script) (before : List Entry) (S : State) (place : ℕ) (t : 
           let a = ended u in
           let own : is.server ≡ u = same_is is.server u (omega arith) in
           subst (IsEnd before e) own is_end;
+      renewed = unrenewed before e unmade;
       send = λ sends. let unsent = is.unsent in absurd (cc);
     };
   }
     where
       e : Entry
       e = entry_for place t S d
+
+      unmade : (v : ObjNo) → owner_in (e ∷ []) v ≡ None
+      unmade = unmade-by e (λ makes. let none = is.makes in absurd (cc))
 
       ms : List Move
       ms = Servers (End is.server) ∷ Lose (Own t) is.server ∷ []
@@ -296,8 +301,7 @@ module _ (script : Script) (before : List Entry) (S : State) (place : ℕ) (t : 
           let row = closing-row (server_at S.serving.servers is.server) may.closing in record {
             closing = closing-told-by script before S is.server row.0 book row.1 ∙ row.2;
             first =
-                sym (book.fresh is.server row.0.owner (book.served.rows is.server row.0 row.1).owner).ends
-                ∙ zero_or (ends (effects_of before) is.server)
+                zero_or (ends_in before is.server)
                 (λ some. let none = book.served.over t is.server some in let own = owned in absurd (omega arith));
             once = let a = ended is.server in let own = same_self is.server in omega arith;
             alone = q.accepts;

@@ -100,7 +100,7 @@ stray-later at None e = absurd (cc)
 stray-later at (Some q) e = refl
 
 pub straight-fact : (script : Script) → IsFact script straying Nowhere
-straight-fact script = record { later = stray-later; carried = λ S t ms rows has u row is c passes was. was; paid = λ S t what u row is mid was. was }
+straight-fact script = record { later = stray-later; carried = λ S t ms rows has u row is c passes was. was; paid = λ S t what rows dead u row is mid was. was }
 
 pub straight-at : (i : Instr) (p : Option Part) → (straying (Some i) p ≡ true → ⊥) → (q : Part) → p ≡ Some q → has_step i q ≡ true
 straight-at i p none q e = by (has_step i q) refl

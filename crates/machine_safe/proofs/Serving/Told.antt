@@ -1,5 +1,5 @@
 -- What each move tells of servers and messages.
-use Rattle.std.proofs.Common.{◌≡◌, ◌<◌, List, length, arith, refl, None, Bool, true, false, Some, ap, ◌+◌}
+use Rattle.std.proofs.Common.{◌≡◌, List, arith, refl, None, Bool, true, false, Some, ap, ◌+◌}
 use Rattle.sym_base.specs.declared.number.MsgNo.{MsgNo}
 use Rattle.sym_base.specs.declared.number.ObjNo.{ObjNo}
 use Rattle.script_types.specs.declared.script.Script.{Script}
@@ -35,7 +35,9 @@ use Rattle.machine_safe.specs.Sent.{accepts, finishes}
 use Rattle.machine_safe.specs.Served.{ends, handles_lost, owner_told, server_told}
 use Rattle.machine_laws.proofs.Fitting.Regular.{mutex_bit, serving_bit}
 use Rattle.machine_safe.proofs.Serving.Keeps.{changing_bit}
-use Rattle.std.specs.Prelude.{if◌then◌else◌}
+use Rattle.machine.specs.Rows.{object_of}
+use Rattle.machine_safe.proofs.Serving.KeptRows.{next-unmade}
+use Rattle.std.specs.Prelude.{if◌then◌else◌, is_some}
 use Rattle.machine.specs.EntryWords.{is_handle}
 
 -- effects that tell of no link, and of no end of a server
@@ -230,9 +232,9 @@ unowned-close true h o v = refl
 unowned-close false h o v = refl
 
 pub unowned-move : (script : Script) (S : State) (t : ObjNo) (m : Move)
-    → ((o : ObjNo) (row : ServerRow) → server_at S.serving.servers o ≡ Some row → o.0 < length S.references.objects)
+    → ((o : ObjNo) (row : ServerRow) → server_at S.serving.servers o ≡ Some row → is_some (object_of S o) ≡ true)
     → FitsMove script t m S → changing_bit m ≡ 0 → mutex_bit m ≡ 0 → (v : ObjNo) → owner_told (told m S) v ≡ None
-unowned-move script S t (Make kind name (Own u)) made fits none unlocked v = let past = made (next_object S) _ fits.1.server in absurd (omega arith)
+unowned-move script S t (Make kind name (Own u)) made fits none unlocked v = absurd (next-unmade S (made (next_object S) _ fits.1.server))
 unowned-move script S t (Make kind name h) made fits none unlocked v = refl
 unowned-move script S t (Gain (Own u) o) made fits none unlocked v = absurd fits.0
 unowned-move script S t (Gain h o) made fits none unlocked v = refl

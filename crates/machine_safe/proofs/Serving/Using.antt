@@ -33,7 +33,7 @@ pub used-fact : (script : Script) → IsFact script needs_use UsesOne
 used-fact script = record {
   later = used-later;
   carried = λ S t ms rows has u row is c passes was. ap is_some (sym c.mid.uses) ∙ was;
-  paid = λ S t what u row is mid was. ap is_some (sym mid.uses) ∙ was;
+  paid = λ S t what rows dead u row is mid was. ap is_some (sym mid.uses) ∙ was;
 }
 
 -- no step strays, since the instruction has each

@@ -64,7 +64,7 @@ use Rattle.machine_safe.proofs.Weight.Gives.{IsOfThread, clean-lowers, lowered-l
 use Rattle.machine_safe.proofs.Weight.Lowers.{Lowered}
 use Rattle.machine_safe.proofs.Weight.Own.{Gives, gives-handle, gives-link, gives-logon, gives-message, gives-mutex, gives-server, gives-use}
 use Rattle.machine_safe.specs.Weight.{find_bit, mutexes_of, servers_of}
-use Rattle.machine_safe.proofs.Weight.Lighter.{gets-same}
+use Rattle.machine_safe.proofs.Weight.Lighter.{gets-same, gets-swept, links_left-swept}
 
 module _ (script : Script) (S : State) (t : ObjNo) (row : ThreadRow) (rows : AreRows script S)
     (is : thread_of S t ≡ Some row) (doomed : row.stage ≡ Doomed) where
@@ -179,18 +179,18 @@ module _ (script : Script) (S : State) (t : ObjNo) (row : ThreadRow) (rows : Are
       (λ _. first-all Giving (held_logons S t) (all-logons (logons_on S.synchronization.logons t) (λ u s some. some)))
 
   -- what it owes
-  light-more : (h : Holder) (o : ObjNo)
-      → MayOwe S.references.threads S.serving.servers S.serving.messages.accepted t.0 h o
+  light-more : (h : Holder) (o : ObjNo) (rest : List Owed)
+      → MayOwe S.references.threads S.serving.servers S.serving.messages.accepted t.0 h o rest
       → total weight (owed_by_close (dies S o) o (link_of S o)) + 1 ≤ weight (duty.Close h o)
-  light-more (Link x) o may =
+  light-more (Link x) o rest may =
       let none : link_of S o ≡ None = ap (λ (y : Option ThreadRow). link_or (link_of_row y)
       (server_of S.serving.servers o)) may.0.0 ∙ ap link_of_session may.0.1 in
       let few = close_weight_unlinked (dies S o) o (link_of S o) none in omega arith
-  light-more (Temp v) o may = let few = close_weight (dies S o) o (link_of S o) in omega arith
-  light-more (Own v) o may = let few = close_weight (dies S o) o (link_of S o) in omega arith
-  light-more (OfMessage m) o may = let few = close_weight (dies S o) o (link_of S o) in omega arith
-  light-more Kernel o may = let few = close_weight (dies S o) o (link_of S o) in omega arith
-  light-more _ o may = absurd may
+  light-more (Temp v) o rest may = let few = close_weight (dies S o) o (link_of S o) in omega arith
+  light-more (Own v) o rest may = let few = close_weight (dies S o) o (link_of S o) in omega arith
+  light-more (OfMessage m) o rest may = let few = close_weight (dies S o) o (link_of S o) in omega arith
+  light-more Kernel o rest may = let few = close_weight (dies S o) o (link_of S o) in omega arith
+  light-more _ o rest may = absurd may
 
   -- what stays behind the oldest of it
   paid : (what : Owed) (rest : List Owed) → owed_of S t ≡ what ∷ rest
@@ -221,7 +221,7 @@ module _ (script : Script) (S : State) (t : ObjNo) (row : ThreadRow) (rows : Are
       (duty.Close h o ∷ rest) =
       subst (EachMayOwe S.references.threads S.serving.servers S.serving.messages.accepted t.0) owes
       (rows.references.duties.own t.0) in
-      let more = light-more h o may.0 in
+      let more = light-more h o rest may.0 in
       let owed : total weight (owed_of T t) ≤ total weight
       (get_or (without_first S.references.owed t) t.0 []) + total weight (owed_by_close (dies S o) o (link_of S o)) =
       weight-owing (without_first S.references.owed t) t (owed_by_close (dies S o) o (link_of S o)) in
@@ -240,8 +240,8 @@ module _ (script : Script) (S : State) (t : ObjNo) (row : ThreadRow) (rows : Are
         new = row;
         is = get_or-set_other S.references.threads o.0 t.0 None None other ∙ is;
         process = refl;
-        less = omega arith;
-        gets = gets-same S T t refl refl refl refl;
+        less = let links = links_left-swept S t o t in omega arith;
+        gets = gets-swept S t o t;
       }
     where
       other : t.0 ≡ o.0 → ⊥
@@ -286,7 +286,7 @@ module _ (script : Script) (S : State) (t : ObjNo) (row : ThreadRow) (rows : Are
 
   return-lowers : (w : Word) (to : Part) → is_returning row.part ≡ true → is_returning (Some to) ≡ false → Does (return_to S t row w to)
   return-lowers w to returns back =
-      if_cases Does (is_open (object_of S (found_object row))) _ _ (λ _. open-lowers (found_object row) to returns back)
+      if_cases Does (is_open row.sought (object_of S (found_object row))) _ _ (λ _. open-lowers (found_object row) to returns back)
       (λ _. missed (is_live row.stage) (ap is_live doomed))
     where
       missed : (live : Bool) → live ≡ false → Does (miss t w (found_object row) live)

@@ -15,7 +15,12 @@ use Rattle.machine.specs.Rows.{owed_of, table_of, thread_of, with_row}
 use Rattle.machine.specs.WellFormed.{weight}
 use Rattle.machine.specs.declared.state.State.{State}
 use Rattle.move_laws.proofs.Holders.ThreadRows.{row-here, row-other}
-use Rattle.machine_safe.specs.Weight.{GetsNoMore, find_bit, handles_in, links_left, messages_left, mutexes_of, servers_of, use_bit, weight_of}
+use Rattle.state_rows.proofs.SoundChanges.{set_item}
+use Rattle.state_rows.specs.declared.duty.Owed.TheVariants.{Sweep}
+use Rattle.machine.specs.Moves.{moved}
+use Rattle.machine.specs.declared.moves.Move.TheVariants.{Pay}
+use Rattle.machine_safe.specs.Weight.{GetsNoMore, find_bit, handles_in, links_left, links_to, messages_left, mutexes_of, servers_of, use_bit, weight_of}
+use Rattle.machine_safe.proofs.Weight.Lists.{total-less}
 
 -- a row whose stage and process stay, and that has nothing more
 pub record RowKept (row new : ThreadRow) : Type 0 where
@@ -67,6 +72,22 @@ gets-same S T t mutexes servers messages linked = record {
   servers = λ o. let e = ap (total (mutex_names o)) servers in omega arith;
   messages = λ o some. let e = ap (λ (r : MessageRows). length (messages_at r o)) messages in omega arith;
   links = λ o some. let e = ap (λ (r : List (List ObjNo)). length (get_or r o.0 [])) linked in omega arith;
+}
+
+-- nor by a sweep, which leaves no more sessions linked to a server
+links-swept : (S : State) (u o v : ObjNo) → links_to (moved u (Pay (Sweep o)) S) v ≤ links_to S v
+links-swept S u o v =
+    set_item (λ (l : List ObjNo). length l ≤ links_to S v) S.serving.servers.linked o.0 v.0 [] [] (λ at. omega arith) (omega arith)
+
+pub links_left-swept : (S : State) (u o t : ObjNo) → links_left (moved u (Pay (Sweep o)) S) t ≤ links_left S t
+links_left-swept S u o t = total-less (links_to (moved u (Pay (Sweep o)) S)) (links_to S) (servers_of S t) (λ v some. links-swept S u o v)
+
+pub gets-swept : (S : State) (u o t : ObjNo) → GetsNoMore S (moved u (Pay (Sweep o)) S) t
+gets-swept S u o t = record {
+  mutexes = λ x. omega arith;
+  servers = λ x. omega arith;
+  messages = λ x some. omega arith;
+  links = λ x some. links-swept S u o x;
 }
 
 pub gets-then : (S T U : State) (t : ObjNo) → GetsNoMore S T t → GetsNoMore T U t → GetsNoMore S U t

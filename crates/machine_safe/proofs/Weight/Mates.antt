@@ -40,7 +40,7 @@ gains-told p u (m ∷ ms) S =
 
 -- by whom they come
 gives-one : (script : Script) (by : Going) (p : ObjNo) (m : Move) (ms : List Move) → IsProper script by m ms → 0 < gain_bit p m → IsOfProcess by.0 by.1 p
-gives-one script by p (move.Make k name (InProcess q i)) ms proper some = subst (IsOfProcess by.0 by.1) (same_is q p some) proper.2
+gives-one script by p (move.Make k name (InProcess q i)) ms proper some = subst (IsOfProcess by.0 by.1) (same_is q p some) proper.0.2
 gives-one script by p (move.Gain (InProcess q i) o) ms proper some = subst (IsOfProcess by.0 by.1) (same_is q p some) proper.1
 gives-one script by p m ms proper some = absurd (omega arith)
 

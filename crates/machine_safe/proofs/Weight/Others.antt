@@ -17,6 +17,7 @@ use Rattle.state_rows.specs.declared.locks.Unlocked.TheVariants.{Freed, Passed}
 use Rattle.state_rows.specs.declared.thread.Stage.TheVariants.{Live, Doomed, Cleaned}
 use Rattle.state_rows.specs.declared.thread.Waiting.TheVariants as waiting
 use Rattle.state_rows.specs.declared.thread.ThreadRow.{ThreadRow}
+use Rattle.state_rows.specs.ObjectRows.{place_of}
 use Rattle.machine.specs.Choice.{priority_of}
 use Rattle.machine.specs.DeathMoves.{death_row}
 use Rattle.machine.specs.Fits.{FitsMove}
@@ -24,7 +25,7 @@ use Rattle.machine.specs.LogonMoves.{logons_on}
 use Rattle.machine.specs.Kept.{dies}
 use Rattle.machine.specs.Moves.{advanced, link_of, moved, owed_by_close, owed_use, use_of, next_object, with_found, with_kept, with_message, with_missed, with_opened, with_part, with_priority, with_register, with_use, with_waiting}
 use Rattle.machine.specs.References.{kernel_holds, mutex_names, stage_holds, total}
-use Rattle.machine.specs.Rows.{owed_of, owing, thread_of, with_row, without_first}
+use Rattle.machine.specs.Rows.{object_of, owed_of, owing, thread_of, with_row, without_first}
 use Rattle.machine.specs.ServerMoves.{owned_by}
 use Rattle.machine.specs.WellFormed.{AreRows, IsLiveThread, weight}
 use Rattle.machine.specs.declared.death_move.DeathMove.{DeathMove}
@@ -46,7 +47,7 @@ use Rattle.state_rows.specs.Locks.{owner_at}
 use Rattle.move_laws.proofs.MoveLaws.LockMoves.{passed_by}
 use Rattle.machine_safe.proofs.Deaths.LockMoves.{waiter-live}
 use Rattle.machine_safe.proofs.Weight.Closes.{IsClosed, lighter-close}
-use Rattle.machine_safe.proofs.Weight.Lighter.{Lighter, RowKept, gets-same, lighter-parts, row-changed, row-same}
+use Rattle.machine_safe.proofs.Weight.Lighter.{Lighter, RowKept, gets-same, gets-swept, links_left-swept, lighter-parts, row-changed, row-same}
 use Rattle.machine_safe.proofs.Weight.Lists.{total-less}
 use Rattle.machine_safe.proofs.Weight.Moves.{gain_bit, is_aside, lighter-make, live-apart, made_bit, may-free, open-unowned, owned-same, post_bit, stage-apart, still, with-row}
 use Rattle.machine_safe.proofs.Weight.Parts.{closing-linked, links-joined, logon_bit, logons-moved, messages-accepted, messages-copied, messages-finished, messages-taken}
@@ -265,12 +266,14 @@ module _ (script : Script) (S : State) (u t : ObjNo) (row : ThreadRow) (rows : A
   lighter-move (Lose h o) fits own below none (inl apart) =
       lighter-close S (moved u (Lose h o) S) t row h o 0 is (closed-by h o)
       (owed-others u (owed_by_close (dies S o) o (link_of S o)) (moved u (Lose h o) S) refl apart refl)
-  lighter-move (Find v o) fits own below none (inl apart) = row-of (Find v o) v (with_found o) (moved u (Find v o) S) fits.1 apart refl refl refl refl refl
+  lighter-move (Find v o) fits own below none (inl apart) =
+      row-of (Find v o) v (with_found o (place_of (object_of S o)))
+      (moved u (Find v o) S) fits.1 apart refl refl refl refl refl
   lighter-move (Open v o part) fits own below none (inl apart) =
       row-of (Open v o part) v (with_opened o part) (moved u (Open v o part) S) fits.1 apart refl refl refl refl refl
   lighter-move (Miss v o) fits own below none (inl apart) = row-of (Miss v o) v with_missed (moved u (Miss v o) S) fits.1 apart refl refl refl refl refl
   lighter-move (GoOn v part) fits own below none (inl apart) =
-      row-of (GoOn v part) v (with_part part) (moved u (GoOn v part) S) fits.2 apart refl refl refl refl refl
+      row-of (GoOn v part) v (with_part part) (moved u (GoOn v part) S) fits.1 apart refl refl refl refl refl
   lighter-move (Keep v number) fits own below none (inl apart) =
       row-of (Keep v number) v (with_kept number) (moved u (Keep v number) S) fits.1 apart refl refl refl refl refl
   lighter-move (Write v x value) fits own below none (inl apart) =
@@ -334,8 +337,8 @@ module _ (script : Script) (S : State) (u t : ObjNo) (row : ThreadRow) (rows : A
       (let e : total weight (owed_of (moved u (Pay (duty.Sweep o)) S) t)
       ≡ total weight (owed_of S t) = ap (total weight)
       (get_or-set_other S.references.owed u.0 t.0 _ [] (λ at. apart (sym at))) in omega arith)
-      (omega arith) (omega arith) (gets-same S (moved u (Pay (duty.Sweep o)) S) t refl refl refl refl) (omega arith)
-      (omega arith) (omega arith) (omega arith) (omega arith)
+      (omega arith) (omega arith) (gets-swept S u o t) (omega arith)
+      (links_left-swept S u o t) (omega arith) (omega arith) (omega arith)
     where
       other : t.0 ≡ o.0 → ⊥
       other at =

@@ -81,7 +81,8 @@ holds-linked owned sessions outstanding s o row inside fresh linked (Link y) x =
     ≡ session_names x (get_or sessions y.0 None) + same_pair (Link s) o (Link y) x) [
       | inl at ↦
           let a = if_is (s.0 == y.0) (same o x) (eq-eqb s.0 y.0 at) in
-          let b : session_names x (get_or sessions y.0 None) ≡ 0 = ap (λ (n : ℕ). session_names x (get_or sessions n None)) (sym at) ∙ ap (session_names x) fresh in
+          let b : session_names x (get_or sessions y.0 None)
+          ≡ 0 = ap (λ (n : ℕ). session_names x (get_or sessions n None)) (sym at) ∙ ap (session_names x) fresh in
           let c : session_names x (get_or (slice_set sessions s.0 (Some row)) y.0 None) ≡ option_names x row.server =
           ap (λ (n : ℕ). session_names x (get_or (slice_set sessions s.0 (Some row)) n None)) (sym at)
           ∙ ap (session_names x) (get_or-set_same sessions s.0 (Some row) None inside) in

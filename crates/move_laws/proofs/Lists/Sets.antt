@@ -1,5 +1,5 @@
 -- What a changed list holds at each index.
-use Rattle.std.proofs.Common.{◌≡◌, ◌⊎◌, inl, inr, ℕ, suc, zero, List, [], ◌∷◌, get_or, refl, sym, ap, subst}
+use Rattle.std.proofs.Common.{◌≡◌, ◌⊎◌, inl, inr, ℕ, suc, zero, List, [], ◌∷◌, get_or, arith, refl, sym, ap, subst}
 use Rattle.std.specs.Prelude.{slice_set}
 
 set_either_suc : {A : Type 0} {i j : ℕ} {a b c : A} → ((j ≡ i) × (a ≡ b)) ⊎ (a ≡ c) → ((suc j ≡ suc i) × (a ≡ b)) ⊎ (a ≡ c)
@@ -25,3 +25,11 @@ pub set_own : {A : Type 0} (xs : List A) (i : ℕ) (d : A) → slice_set xs i (g
 set_own [] i d = refl
 set_own (x ∷ xs) zero d = refl
 set_own (x ∷ xs) (suc i) d = ap (◌∷◌ x) (set_own xs i d)
+
+-- where the item of what isn't there takes a place nothing is there
+pub set_default : {A : Type 0} (xs : List A) (i j : ℕ) (d : A) → j ≡ i → get_or (slice_set xs i d) j d ≡ d
+set_default [] i j d at = refl
+set_default (x ∷ xs) zero zero d at = refl
+set_default (x ∷ xs) zero (suc j) d at = absurd (omega arith)
+set_default (x ∷ xs) (suc i) zero d at = absurd (omega arith)
+set_default (x ∷ xs) (suc i) (suc j) d at = set_default xs i j d (omega arith)

@@ -1,5 +1,6 @@
--- Whether an object is gone, and whether it is swept, as numbers that effects add to.
+-- Whether an object is dead, gone, or swept, as numbers that effects add to.
 use Rattle.std.proofs.Common.{◌≡◌, ℕ, suc, zero, ◌+◌, ◌<◌, ◌≤◌, List, [], ◌∷◌, length, get_or, arith, refl, ap, Option, Some, None, Bool, true, false}
+use Rattle.std.specs.Prelude.{is_some}
 use Rattle.sym_base.specs.declared.number.ObjNo.{ObjNo}
 use Rattle.sym_base.specs.declared.kind.Kind.TheVariants.{Mutex}
 use Rattle.state_rows.specs.declared.object.ObjectRow.{ObjectRow}
@@ -7,7 +8,7 @@ use Rattle.machine.specs.WellFormed.{IsAlive, dead_bit, is_dead}
 
 -- what stands past the last object: a row that isn't dead
 abbrev pub unmade : Option ObjectRow
-unmade = Some (record { kind = Mutex; name = []; dead = false })
+unmade = Some (record { kind = Mutex; name = []; dead = false; place = 0 })
 
 -- 1 where a row is dead or swept
 abbrev pub gone_bit : Option ObjectRow → ℕ
@@ -97,3 +98,36 @@ default_at (x ∷ xs) (suc i) h = default_at xs i (omega arith)
 -- the row of an object that was made
 pub row_made : (objects : List (Option ObjectRow)) (o : ObjNo) → o.0 < length objects → get_or objects o.0 unmade ≡ get_or objects o.0 None
 row_made objects o h = default_at objects o.0 h
+
+-- whether it is dead is 1 or 0, and 0 of one that is alive
+pub dead_le : (row : Option ObjectRow) → is_dead row ≤ 1
+dead_le None = omega arith
+dead_le (Some row) = dead_bit_le row.dead
+
+pub alive_undead : (row : Option ObjectRow) → IsAlive row → is_dead row ≡ 0
+alive_undead None h = absurd h
+alive_undead (Some row) h = ap dead_bit h
+
+-- one that is there and isn't dead is alive
+there_by : (row : ObjectRow) (b : Bool) → row.dead ≡ b → dead_bit b ≡ 0 → row.dead ≡ false
+there_by row true e h = absurd (omega arith)
+there_by row false e h = e
+
+pub there_alive : (row : Option ObjectRow) → is_some row ≡ true → is_dead row ≡ 0 → IsAlive row
+there_alive None h none = absurd (cc)
+there_alive (Some row) h none = there_by row row.dead refl none
+
+-- what is alive or dead is there
+pub alive_there : (row : Option ObjectRow) → IsAlive row → is_some row ≡ true
+alive_there None h = absurd h
+alive_there (Some row) h = refl
+
+pub dead_there : (row : Option ObjectRow) → 0 < is_dead row → is_some row ≡ true
+dead_there None h = absurd (omega arith)
+dead_there (Some row) h = refl
+
+-- its number is one of the list's
+pub there_inside : (objects : List (Option ObjectRow)) (i : ℕ) → is_some (get_or objects i None) ≡ true → i < length objects
+there_inside [] i h = absurd (cc)
+there_inside (x ∷ xs) zero h = omega arith
+there_inside (x ∷ xs) (suc i) h = let r = there_inside xs i h in omega arith

@@ -19,10 +19,10 @@ use Rattle.machine.specs.HeldIn.{held_in, use_names, owed_by}
 use Rattle.machine.specs.Task.{instructions_of}
 use Rattle.machine.specs.Out.{is_returning, part_of}
 use Rattle.machine.specs.Fits.{FitsMove, IsBack}
-use Rattle.machine.specs.Serving.{is_sending, numbers_left}
+use Rattle.machine.specs.Serving.{numbers_left}
 use Rattle.machine.specs.WellFormed.{EachMayOwe, IsThread, AreRows, weight, owed_sweeps, sweeps_of}
 use Rattle.move_laws.proofs.Lives.Kinds.{lives-none}
-use Rattle.move_laws.proofs.Lives.Outs.{outs-same, seeks-back, seeks-with_row}
+use Rattle.move_laws.proofs.Lives.Outs.{seeks-back, seeks-with_row}
 use Rattle.move_laws.proofs.Holders.HoldersMove.{holders-none}
 use Rattle.move_laws.proofs.Holders.ThreadRows.{rows-with_row, row-here}
 use Rattle.move_laws.proofs.References.Counts.{count-with_row, kernel-with_row, total-owing}
@@ -63,7 +63,6 @@ record PutsDown (f : ThreadRow → ThreadRow) : Type 0 where
   pub stage : (row : ThreadRow) → (f row).stage ≡ row.stage
   pub waits : (row : ThreadRow) → (f row).waiting ≡ row.waiting
   pub going : (row : ThreadRow) → is_returning row.part ≡ false → is_returning (f row).part ≡ false
-  pub sends : (row : ThreadRow) → is_sending (f row).part ≤ is_sending row.part
   pub left : (row : ThreadRow) → numbers_left (Some (f row)) ≤ numbers_left (Some row)
   pub holds : (row : ThreadRow) → IsHolding row → IsHolding (f row)
 
@@ -136,7 +135,7 @@ sound-put script S u f puts thread back going few inside rows =
           (ap (λ (x : Option ThreadRow). is_returning (part_of x)) (row-here S.references.threads u f u.0 refl) ∙ going)
           (duties-threads S.references.threads other S.serving.servers S.serving.messages.accepted S.references.owed
           (λ k. inr (paid-with_row S.references.threads u f puts.going k)) rows.references.duties);
-      synchronization = synchronization-left script S (length S.references.objects) other (owing S.references.owed u (owed_use u used)) (omega arith)
+      synchronization = synchronization-left script S S.references.objects other (owing S.references.owed u (owed_use u used)) (λ k none. none)
           (synchronization-then script S other S.references.owed (owing S.references.owed u (owed_use u used))
           (synchronization-kept script S u f puts.holds puts.stage puts.waits rows)
           (leaves-owing other S.references.owed u (owed_use u used) S.synchronization.locks (use_unowned u used))) rows;
@@ -151,15 +150,14 @@ sound-put script S u f puts thread back going few inside rows =
             link = λ row e. puts.link row ∙ e;
           }) rows.references.spent;
       serving =
-          serving-kept script S u f puts.stage (record {
+          serving-kept script S u f puts.stage (λ row p e. sym (puts.link row) ∙ e) (record {
             live = λ row live. sym (puts.stage row) ∙ live;
             waits = λ row live. puts.waits row;
-            sends = puts.sends;
             left = puts.left;
           }) rows;
-    }) (lives-none S T refl counts sweeps (outs-same S other
+    }) (lives-none S T (refl, refl, refl) counts sweeps
     (seeks-with_row S.references.threads u f
-    (λ row is. let before = is_back S u row is back in seeks-back f row before (puts.going row before)))))
+    (λ row is. let before = is_back S u row is back in seeks-back f row before (puts.going row before))))
     (holders-none S T held)
 
 going : (x : Option ThreadRow) → is_returning (part_of (option_map advanced x)) ≡ false
@@ -179,7 +177,6 @@ sound-advance script S t u fits few inside rows =
       stage = λ row. refl;
       waits = λ row. refl;
       going = λ row e. refl;
-      sends = λ row. omega arith;
       left = λ row. let a = begun_one row.part in
           omega arith;
       holds = λ row h. (h.0, h.1, h.2, refl);
@@ -218,7 +215,6 @@ sound-put_down script S t u fits few inside rows =
       stage = λ row. refl;
       waits = λ row. refl;
       going = λ row e. e;
-      sends = λ row. omega arith;
       left = λ row. omega arith;
       holds = λ row h. h;
     })

@@ -1,8 +1,7 @@
 -- A reference is given up. With the last one its object dies, and the close of the object's own link is owed, and its sweep.
 use Rattle.std.proofs.Common.{◌≡◌, ◌⊎◌, inl, inr, ℕ, ◌+◌, ◌<◌, ◌≤◌, List, [], ◌∷◌, ◌++◌, length, get_or, arith, refl, sym, subst, ap, ◌∙◌, Option, Some, None, Bool, true, false}
 use Rattle.std.specs.Prelude.{option_map, if◌then◌else◌, is_some, slice_set}
-use Rattle.std.proofs.lemmas.Bool.{cases_lt}
-use Rattle.std.proofs.lemmas.List.{get_or_past, length-set}
+use Rattle.std.proofs.lemmas.List.{get_or-set_other, length-set}
 use Rattle.sym_base.specs.declared.number.ObjNo.{ObjNo}
 use Rattle.script_types.specs.declared.script.Script.{Script}
 use Rattle.entry_log.specs.declared.effect.Holder.{Holder}
@@ -12,9 +11,9 @@ use Rattle.state_rows.specs.declared.duty.Owed.{Owed}
 use Rattle.state_rows.specs.declared.duty.Owed.TheVariants.{Sweep}
 use Rattle.state_rows.specs.declared.handle_slot.HandleSlot.{HandleSlot}
 use Rattle.state_rows.specs.ServerChanges.{after_detach, detached}
-use Rattle.state_rows.specs.ServerRows.{IsSession, link_of as link_of_session, server_of, session_at}
+use Rattle.state_rows.specs.ServerRows.{link_of as link_of_session, server_of, session_at}
 use Rattle.state_rows.specs.declared.locks.LockRows.{LockRows}
-use Rattle.state_rows.specs.declared.messages.Message.{Message}
+use Rattle.state_rows.specs.declared.object.ObjectRow.{ObjectRow}
 use Rattle.state_rows.specs.declared.servers.ServerRows.{ServerRows}
 use Rattle.state_rows.specs.declared.servers.SessionRow.{SessionRow}
 use Rattle.state_rows.specs.declared.thread.ThreadRow.{ThreadRow}
@@ -28,9 +27,9 @@ use Rattle.machine.specs.HeldIn.{held_in, use_names, owed_by}
 use Rattle.machine.specs.Out.{is_returning, part_of}
 use Rattle.machine.specs.WellFormed.{IsAlive, AreTables, AreThreads, AreDuties, AreServiceRows, AreServingRows, EachMayOwe, AreRows, IsUntold, weight, owed_sweeps, sweeps_of, AreSpent, is_spent}
 use Rattle.machine.specs.ServerMoves.{servers_closed}
-use Rattle.machine.specs.Serving.{AreServers, IsUnlinked, MayBeLinked, open_bit, session_bit, sessions_there, sessions_used}
+use Rattle.machine.specs.Serving.{AreServers, IsUnlinked, is_over, open_bit, unclosed_bit}
 use Rattle.move_laws.proofs.Lives.Closes.{lives-closed}
-use Rattle.move_laws.proofs.Lives.Outs.{SeeksSame, outs-same, seeks-with_row}
+use Rattle.move_laws.proofs.Lives.Outs.{SeeksSame, seeks-with_row}
 use Rattle.move_laws.proofs.Holders.HoldersMove.{holders-closed}
 use Rattle.move_laws.proofs.Holders.ThreadRows.{rows-with_row}
 use Rattle.move_laws.proofs.References.Counts.{count-with_row, kernel-with_row, total-owing}
@@ -40,15 +39,15 @@ use Rattle.move_laws.proofs.RowLaws.Duties.{paid-with_row, duties-threads, dutie
 use Rattle.move_laws.proofs.RowLaws.Locks.{leaves-owing}
 use Rattle.move_laws.proofs.MoveLaws.Groups.{LeavesSynchronization, services-row, synchronization-left, synchronization-row, synchronization-then}
 use Rattle.move_laws.proofs.MoveLaws.Sound.{Sound, sound-of}
-use Rattle.move_laws.proofs.RowLaws.Spent.{spent-died}
+use Rattle.move_laws.proofs.RowLaws.Spent.{died-those, spent-died}
 use Rattle.move_laws.proofs.Holders.Serving.{holds-detached}
-use Rattle.move_laws.proofs.Lists.Mapped.{mapped-none, mapped-some}
-use Rattle.move_laws.proofs.Lists.Totals.{inside, total-with}
+use Rattle.move_laws.proofs.Lists.Mapped.{mapped-none, mapped-some, mapped-value}
+use Rattle.move_laws.proofs.Lists.Totals.{total-with}
 use Rattle.move_laws.proofs.References.Serving.{count-detached}
 use Rattle.move_laws.proofs.RowLaws.MessagesKept.{messages-kept, messages-sessions}
 use Rattle.move_laws.proofs.RowLaws.ServerDuties.{duties-servers}
-use Rattle.move_laws.proofs.RowLaws.Servers.{servers-detach}
-use Rattle.move_laws.proofs.RowLaws.ServersKept.{servers-kept, servers-more}
+use Rattle.move_laws.proofs.RowLaws.Servers.{servers-detached}
+use Rattle.move_laws.proofs.RowLaws.ServersKept.{servers-kept}
 
 -- the rows in the middle of a close of an object: a holder's reference to it isn't there any more
 pub record HasLost (script : Script) (S : State) (t : ObjNo) (h : Holder) (o : ObjNo) (handles : List (List HandleSlot))
@@ -76,7 +75,7 @@ pub record HasLost (script : Script) (S : State) (t : ObjNo) (h : Holder) (o : O
   pub synchronization : LeavesSynchronization script S threads owed
   pub services : AreServiceRows threads S.services
   pub spent : AreSpent S.references.objects handles threads
-  pub serving : AreServingRows (length S.references.objects) threads S.synchronization.locks
+  pub serving : AreServingRows S.references.objects threads S.synchronization.locks
       (IsUntold S.synchronization.requests S.synchronization.logons)
       (record S.serving { servers = servers; owned = owned })
   pub going : is_returning (part_of (get_or threads t.0 None)) ≡ false
@@ -130,23 +129,22 @@ names_link (Some x) (Some y) p one =
     elim one as (λ _. option_names p (link_or (Some x) (Some y)) ≡ option_names p (Some x) + option_names p (Some y))
     [ inl e ↦ absurd (cc) | inr e ↦ absurd (cc) ]
 
-one_link : (objects : ℕ) (threads : List (Option ThreadRow)) (locks : LockRows) (owned : List (List ObjNo))
+one_link : (objects : List (Option ObjectRow)) (threads : List (Option ThreadRow)) (locks : LockRows) (owned : List (List ObjNo))
     (servers : ServerRows) (o : ObjNo)
     → AreServers (λ row. is_spent row.stage) objects threads locks owned servers
     → (link_of_row (get_or threads o.0 None) ≡ None) ⊎ (server_of servers o ≡ None)
-one_link objects threads locks owned servers o h = elim (cases_lt o.0 (length threads)) [
-  | inl inside ↦ inr (ap link_of_session (h.sessions_later o inside))
-  | inr past ↦ inl (ap link_of_row (get_or_past threads o.0 None past))
-]
+one_link objects threads locks owned servers o h = by (get_or threads o.0 None) refl
+  where
+    by : (x : Option ThreadRow) → get_or threads o.0 None ≡ x → (link_of_row (get_or threads o.0 None) ≡ None) ⊎ (server_of servers o ≡ None)
+    by None is = inl (ap link_of_row is)
+    by (Some row) is = inr (ap link_of_session (h.sessions_apart o (ap is_some is)))
 
 -- what is linked to has no link itself
 record MayLink (threads other : List (Option ThreadRow)) (servers new : ServerRows) : Type 0 where
-  pub long : length other ≡ length threads
   pub threads_none : (k : ℕ) → get_or threads k None ≡ None → get_or other k None ≡ None
   pub sessions_none : (x : ObjNo) → session_at servers x ≡ None → session_at new x ≡ None
-  pub sessions_some : (x : ObjNo) → IsSession servers x → IsSession new x
 
-may_owe_link : (script : Script) (objects : ℕ) (threads other : List (Option ThreadRow)) (locks : LockRows)
+may_owe_link : (script : Script) (objects : List (Option ObjectRow)) (threads other : List (Option ThreadRow)) (locks : LockRows)
     (owned : List (List ObjNo)) (servers new : ServerRows) (accepted : ℕ) (t o : ObjNo) (a b link : Option ObjNo)
     → link_of_row (get_or threads o.0 None) ≡ a → server_of servers o ≡ b → link_or a b ≡ link
     → AreThreads script threads → AreServers (λ row. is_spent row.stage) objects threads locks owned servers
@@ -156,41 +154,35 @@ may_owe_link script objects threads other locks owned servers new accepted t o (
     let own : q ≡ p = cc in
     let r = linked_row (get_or threads o.0 None) q ea in
     let at : q.0 ≡ r.0.process.0 = (h.rows o.0 r.0 r.1).link q r.2 in
-    let process = (h.rows o.0 r.0 r.1).process in
-    let inside_o = inside threads o.0 r.0 r.1 in
-    let long = m.long in
-    let free : IsUnlinked other new q × MayBeLinked other new o = (
-      (
-        m.threads_none q.0 (subst (λ (n : ℕ). get_or threads n None ≡ None) (sym at) (h.processes o.0 r.0 r.1)),
-        m.sessions_none q (s.sessions_later q (omega arith)),
-      ),
-      λ past. absurd (omega arith),
+    let self = same_self o in
+    let free : IsUnlinked other new q = (
+      m.threads_none q.0 (subst (λ (n : ℕ). get_or threads n None ≡ None) (sym at) (h.processes o.0 r.0 r.1)),
+      m.sessions_none q (s.links_apart o.0 r.0 q r.1 r.2),
     ) in
-    (subst (λ (y : ObjNo). IsUnlinked other new y × MayBeLinked other new o) own free, tt)
+    ((subst (IsUnlinked other new) own free, omega arith), tt)
 may_owe_link script objects threads other locks owned servers new accepted t o None (Some q) (Some p) ea eb e h s m =
     let own : q ≡ p = cc in
-    let free = s.unlinked q (s.sessions o q eb) in (
-      subst (λ (y : ObjNo). IsUnlinked other new y × MayBeLinked other new o) own (
-        (m.threads_none q.0 free.0, m.sessions_none q free.1),
-        λ past. m.sessions_some o (linked_session (session_at servers o) q eb),
-      ),
-      tt,
-    )
+    let free = s.unlinked q (s.sessions o q eb) in
+    let self = same_self o in
+    ((subst (IsUnlinked other new) own (m.threads_none q.0 free.0, m.sessions_none q free.1), omega arith), tt)
 may_owe_link script objects threads other locks owned servers new accepted t o None None (Some p) ea eb e h s m = absurd (cc)
 
-open_detached : (x : Option SessionRow) → (open_bit (option_map detached x) ≡ open_bit x) × (session_bit (option_map detached x) ≡ session_bit x)
+open_detached : (x : Option SessionRow)
+    → (open_bit (option_map detached x) ≡ open_bit x) × (unclosed_bit (option_map detached x) ≡ unclosed_bit x)
 open_detached None = (refl, refl)
 open_detached (Some row) = (refl, refl)
 
 -- a session that is detached is open, or isn't, as before
-pub detached_bits : (threads : List (Option ThreadRow)) (servers : ServerRows) (outstanding : List Message) (o : ObjNo)
-    → (sessions_used threads (after_detach servers o) outstanding ≡ sessions_used threads servers outstanding)
-    × (sessions_there (after_detach servers o) ≡ sessions_there servers)
-detached_bits threads servers outstanding o =
+pub detached_bits : (servers : ServerRows) (o : ObjNo)
+    → (total open_bit (after_detach servers o).sessions ≡ total open_bit servers.sessions)
+    × ((s : ObjNo) → unclosed_bit (session_at (after_detach servers o) s) ≡ unclosed_bit (session_at servers s))
+detached_bits servers o =
     let a = total-with open_bit (option_map detached) None servers.sessions o.0 refl in
-    let b = total-with session_bit (option_map detached) None servers.sessions o.0 refl in
     let c = open_detached (get_or servers.sessions o.0 None) in
-    let d = c.0 in let e = c.1 in (omega arith, omega arith)
+    let d = c.0 in (
+      omega arith,
+      λ s. mapped-value unclosed_bit detached servers.sessions o.0 s.0 (λ row. refl),
+    )
 
 pub sound-closed : (last : Bool) (script : Script) (S : State) (t : ObjNo) (h : Holder) (o : ObjNo)
     (handles : List (List HandleSlot)) (threads : List (Option ThreadRow)) (owed : List (List Owed))
@@ -224,16 +216,16 @@ sound-closed false script S t h o handles threads owed servers owned e inside_t 
       threads = lost.threads_are;
       duties = duties-owing threads servers S.serving.messages.accepted owed t [] tt (omega arith) lost.going lost.duties;
       synchronization =
-          synchronization-left script S (length S.references.objects) threads (owing owed t []) (omega arith)
+          synchronization-left script S S.references.objects threads (owing owed t []) (λ k none. none)
           (synchronization-then script S threads owed (owing owed t []) lost.synchronization
           (leaves-owing threads owed t [] S.synchronization.locks (λ u x. refl))) rows;
       services = lost.services;
       spent = lost.spent;
       serving = lost.serving;
     })
-    (lives-closed false S T h o e alive refl
+    (lives-closed false S T h o e alive refl refl refl
     (λ p. let a = total-owing (owed_names p) owed t [] here in let b = lost.counts p in omega arith)
-    (λ p. let a = total-owing (owed_sweeps p) owed t [] here in let b = lost.sweeps p in omega arith) (outs-same S threads lost.seeks))
+    (λ p. let a = total-owing (owed_sweeps p) owed t [] here in let b = lost.sweeps p in omega arith) lost.seeks)
     (holders-closed false S T h o (λ g x. let a = total-owing (owed_by g x) owed t [] here in let b = lost.held g x in omega arith))
 sound-closed true script S t h o handles threads owed servers owned e inside_t lost rows =
     let f = unlinked in
@@ -255,21 +247,19 @@ sound-closed true script S t h o handles threads owed servers owned e inside_t l
     let alive : IsAlive (object_of S o) = rows.lives.alive o (let a = lost.counts o in let b = same_self o in omega arith) in
     let named : (p : ObjNo) → option_names p (link_of_row old) + option_names p (server_of servers o) ≡ option_names p link = λ p.
     let a = names_link (link_of_row old) (server_of servers o) p
-    (one_link (length S.references.objects) threads S.synchronization.locks owned servers o lost.serving.servers) in
+    (one_link S.references.objects threads S.synchronization.locks owned servers o lost.serving.servers) in
     let b = ap (option_names p) lost.link in omega arith in
     let may : MayLink threads other servers new = record {
-      long = length-with_row threads o f;
       threads_none = none-with_row threads o f;
       sessions_none = λ x none. mapped-none detached servers.sessions o.0 x.0 none;
-      sessions_some = λ x is. mapped-some detached servers.sessions o.0 x.0 ∙ is;
     } in
-    let bits = detached_bits other servers S.serving.messages.outstanding o in
-    let used = bits.0 in let there = bits.1 in
+    let bits = detached_bits servers o in
+    let used = bits.0 in
+    let those = died-those S.references.objects o.0 in
     let kept = messages-kept (IsUntold S.synchronization.requests S.synchronization.logons) threads servers
     S.serving.messages o f (record {
       live = λ row live. live;
       waits = λ row live. refl;
-      sends = λ row. omega arith;
       left = λ row. omega arith;
     }) lost.serving.messages in
     sound-of script S T (closed_effects true h o) rows (record {
@@ -296,38 +286,35 @@ sound-closed true script S t h o handles threads owed servers owned e inside_t l
         role = refl;
       }) lost.threads_are;
       duties = duties-owing other new S.serving.messages.accepted owed t more
-          (may_owe_link script (length S.references.objects) threads other S.synchronization.locks owned servers new
+          (may_owe_link script S.references.objects threads other S.synchronization.locks owned servers new
           S.serving.messages.accepted t o (link_of_row old)
           (server_of servers o) link refl refl lost.link lost.threads_are lost.serving.servers may) few
           ((paid-with_row threads o f (λ row r. r) t.0).going lost.going)
           (duties-servers other servers new S.serving.messages.accepted S.serving.messages.accepted owed (omega arith)
-          (λ x _. may.sessions_none x) may.sessions_some
+          (λ x _. may.sessions_none x)
           (duties-threads threads other servers S.serving.messages.accepted owed (λ k. inr (paid-with_row threads o f (λ row r. r) k)) lost.duties));
       synchronization =
-          synchronization-left script S (length T.references.objects) other (owing owed t more)
-          (let a = length-set S.references.objects o.0 (dead_row (get_or S.references.objects o.0 None)) in omega arith)
+          synchronization-left script S objects other (owing owed t more) those
           (synchronization-then script S other owed (owing owed t more)
           (synchronization-row script S threads owed o f (λ row r. r) (λ row. refl) (λ row. refl) lost.synchronization)
           (leaves-owing other owed t more S.synchronization.locks (link_unowned o link))) rows;
       services = services-row threads o f S.services (λ row is. refl) lost.services;
-      spent = spent-died S.references.objects handles threads o (dead_row (get_or S.references.objects o.0 None)) lost.spent;
+      spent = spent-died S.references.objects handles threads o lost.spent;
       serving = record {
         servers =
-            servers-more (λ row. is_spent row.stage) (length S.references.objects)
-            (length objects) other S.synchronization.locks owned new
-            (let a = length-set S.references.objects o.0 (dead_row (get_or S.references.objects o.0 None)) in omega arith)
-            (servers-detach (λ row. is_spent row.stage)
-            (length S.references.objects) other S.synchronization.locks owned servers o
+            servers-detached (λ row. is_spent row.stage) S.references.objects objects other S.synchronization.locks owned servers o
+            (those, λ x apart over. ap is_over (sym (get_or-set_other S.references.objects o.0 x.0 _ None (λ e. apart (sym e)))) ∙ over)
             (servers-kept (λ row. is_spent row.stage)
-            (length S.references.objects) threads S.synchronization.locks owned servers o f (λ row. refl)
-            (λ row. refl) lost.serving.servers));
+            S.references.objects threads S.synchronization.locks owned servers o f (λ row. refl)
+            (λ row. refl) (λ row p e. absurd (cc)) lost.serving.servers);
         messages =
             messages-sessions (IsUntold S.synchronization.requests S.synchronization.logons) other servers new
-            S.serving.messages may.sessions_some (let a = kept.few in omega arith)
+            S.serving.messages (λ message among is. mapped-some detached servers.sessions o.0 message.row.session.0 ∙ is)
+            (λ x. let a = bits.1 x in let b = kept.closed x in omega arith)
             (let a = kept.numbered in omega arith) kept;
       };
     })
-    (lives-closed true S T h o e alive refl
+    (lives-closed true S T h o e alive refl refl refl
     (λ p.
     let a = count-with_row threads o f p in
     let b = kernel-with_row threads o f p (λ row is. refl) in
@@ -338,7 +325,7 @@ sound-closed true script S t h o handles threads owed servers owned e inside_t l
     let i = named p in
     let j = lost.counts p in omega arith)
     (λ p. let a = total-owing (owed_sweeps p) owed t more here in let b = lost.sweeps p in let c = (link_owed o link p).1 in omega arith)
-    (outs-same S other (λ p. seeks-with_row threads o f (λ row is x. refl) p ∙ lost.seeks p)))
+    (λ p place. seeks-with_row threads o f (λ row is x n. refl) p place ∙ lost.seeks p place))
     (holders-closed true S T h o (λ g x.
     let a = rows-with_row handles threads S.synchronization.mutexes o f g x (λ row is. refl) in
     let n = without_link old x in

@@ -93,7 +93,7 @@ sound-resized script S memories m arg size kept rows =
             (λ row. refl) rows.serving.messages;
       };
     })
-    (lives-none S T refl (λ o. let a = stays (message_names o) (λ x. refl) in omega arith) (λ o. refl) (λ o. refl))
+    (lives-none S T (refl, refl, refl) (λ o. let a = stays (message_names o) (λ x. refl) in omega arith) (λ o. refl) (λ o place. refl))
     (holders-none S T (λ g x. let a = holds-same S.serving.owned S.serving.servers.sessions
     S.serving.messages.outstanding T.serving.messages.outstanding g x (λ n. stays (message_holds n x) (λ y. refl)) in
     omega arith))

@@ -39,6 +39,7 @@ use Rattle.move_laws.proofs.References.Counts.{count-with_row, total-owing}
 use Rattle.move_laws.proofs.References.Same.{if_zero}
 use Rattle.move_laws.proofs.Lives.Kinds.{lives-quiet}
 use Rattle.move_laws.proofs.Lives.Outs.{KeepsSeeks, outs-same, seeks-with_row}
+use Rattle.move_laws.proofs.Lives.Places.{outs-found}
 use Rattle.move_laws.proofs.RowLaws.MessagesKept.{KeepsMessages}
 use Rattle.move_laws.proofs.RowLaws.ServersKept.{servers-with_row}
 use Rattle.move_laws.proofs.Lists.Totals.{inside}
@@ -209,39 +210,41 @@ awaited-death S t (Bury u) fits h =
 
 -- what a thread owns is closing by its doom, and it is nothing by its cleaning
 serving-death : (script : Script) (S : State) (t : ObjNo) (m : DeathMove) → FitsDeath t m S → AreRows script S
-    → AreServers (λ row. is_spent row.stage) (length S.references.objects)
+    → AreServers (λ row. is_spent row.stage) S.references.objects
     (with_row S.references.threads (death_thread m) (death_row m)) S.synchronization.locks S.serving.owned
     S.serving.servers
-serving-death script S t (Note u exit) fits rows = servers-row script S u (death_row (Note u exit)) (λ row. refl) rows
+serving-death script S t (Note u exit) fits rows = servers-row script S u (death_row (Note u exit)) (λ row. refl) (λ row p e. e) rows
 serving-death script S t (Doom u exit) fits rows =
     servers-with_row (λ row. is_spent row.stage)
-    (length S.references.objects) S.references.threads S.synchronization.locks S.serving.owned S.serving.servers u
+    S.references.objects S.references.threads S.synchronization.locks S.serving.owned S.serving.servers u
     (death_row (Doom u exit)) (λ row is has. record
-    { closing = λ dead o some. fits.4 o some; none = λ gone. absurd (cc) }) rows.serving.servers
+    { closing = λ dead o some. fits.4 o some; none = λ gone. absurd (cc); link = has.link }) rows.serving.servers
 serving-death script S t (Clean u) fits rows =
     servers-with_row (λ row. is_spent row.stage)
-    (length S.references.objects) S.references.threads S.synchronization.locks S.serving.owned S.serving.servers u
+    S.references.objects S.references.threads S.synchronization.locks S.serving.owned S.serving.servers u
     (death_row (Clean u))
     (λ row is has. record {
       closing = λ dead o some. let none = ap (total (mutex_names o)) fits.1.3 in
           absurd (omega arith);
       none = λ gone. fits.1.3;
+      link = has.link;
     }) rows.serving.servers
 serving-death script S t (Bury u) fits rows =
     servers-with_row (λ row. is_spent row.stage)
-    (length S.references.objects) S.references.threads S.synchronization.locks S.serving.owned S.serving.servers u
+    S.references.objects S.references.threads S.synchronization.locks S.serving.owned S.serving.servers u
     (death_row (Bury u))
     (λ row is has. record {
       closing = λ dead o some. has.closing (ap is_live (row-is fits.0 row is)) o some;
       none = λ gone. has.none (ap is_spent (row-is fits.0 row is));
+      link = has.link;
     }) rows.serving.servers
 
 -- nobody is brought back to life
 keeps-messages : (m : DeathMove) → KeepsMessages (death_row m)
-keeps-messages (Note t exit) = record { live = λ row live. live; waits = λ row live. refl; sends = λ row. omega arith; left = λ row. omega arith }
-keeps-messages (Doom t exit) = record { live = λ row live. absurd (cc); waits = λ row live. absurd (cc); sends = λ row. omega arith; left = λ row. omega arith }
-keeps-messages (Clean t) = record { live = λ row live. absurd (cc); waits = λ row live. refl; sends = λ row. omega arith; left = λ row. omega arith }
-keeps-messages (Bury t) = record { live = λ row live. absurd (cc); waits = λ row live. refl; sends = λ row. omega arith; left = λ row. omega arith }
+keeps-messages (Note t exit) = record { live = λ row live. live; waits = λ row live. refl; left = λ row. omega arith }
+keeps-messages (Doom t exit) = record { live = λ row live. absurd (cc); waits = λ row live. absurd (cc); left = λ row. omega arith }
+keeps-messages (Clean t) = record { live = λ row live. absurd (cc); waits = λ row live. refl; left = λ row. omega arith }
+keeps-messages (Bury t) = record { live = λ row live. absurd (cc); waits = λ row live. refl; left = λ row. omega arith }
 
 leaves-locks : (S : State) (t : ObjNo) (m : DeathMove) → FitsDeath t m S
     → LeavesLocks S.references.threads (with_row S.references.threads (death_thread m) (death_row m)) S.references.owed
@@ -260,7 +263,7 @@ leaves-death script S t m fits rows = record {
 }
 
 served-death : (script : Script) (S : State) (t : ObjNo) (m : DeathMove) → FitsDeath t m S → AreRows script S
-    → AreServingRows (length S.references.objects)
+    → AreServingRows S.references.objects
     (with_row S.references.threads (death_thread m) (death_row m)) S.synchronization.locks
     (IsUntold S.synchronization.requests S.synchronization.logons) S.serving
 served-death script S t m fits rows = record {
@@ -271,10 +274,10 @@ served-death script S t m fits rows = record {
 -- any but a burial changes one row
 -- and leaves whether its thread is out
 keeps-seeks : (m : DeathMove) (row : ThreadRow) → KeepsSeeks (death_row m) row
-keeps-seeks (Note u exit) row o = refl
-keeps-seeks (Doom u exit) row o = refl
-keeps-seeks (Clean u) row o = refl
-keeps-seeks (Bury u) row o = refl
+keeps-seeks (Note u exit) row o place = refl
+keeps-seeks (Doom u exit) row o place = refl
+keeps-seeks (Clean u) row o place = refl
+keeps-seeks (Bury u) row o place = refl
 
 sound-dying : (script : Script) (S : State) (t : ObjNo) (m : DeathMove) → FitsDeath t m S
     → ((row : ThreadRow) → thread_of S (death_thread m) ≡ Some row → stage_holds (death_row m row).stage
@@ -357,7 +360,7 @@ sound-bury script S t u fits few rows =
           (duties-threads S.references.threads other S.serving.servers S.serving.messages.accepted S.references.owed
           (λ k. inr (paid-with_row S.references.threads u f (λ row h. h) k)) rows.references.duties);
       synchronization =
-          synchronization-left script S (length S.references.objects) other (owing S.references.owed t more) (omega arith)
+          synchronization-left script S S.references.objects other (owing S.references.owed t more) (λ k none. none)
           (synchronization-then script S other S.references.owed (owing S.references.owed t more)
           (leaves-death script S t (Bury u) fits rows)
           (leaves-owing other S.references.owed t more S.synchronization.locks (λ v x. refl))) rows;
@@ -365,11 +368,12 @@ sound-bury script S t u fits few rows =
       spent = spent-death script S t (Bury u) fits rows.references.spent;
       serving = served-death script S t (Bury u) fits rows;
     })
-    (lives-quiet S T (effect.Bury u ∷ []) refl
+    (lives-quiet S T (effect.Bury u ∷ []) (refl, refl, refl)
     (record { minuses = λ p. refl; deaths = λ p. refl; removals = λ p. refl })
     (λ o. let a = counts o in omega arith) sweeps
-    (λ o inside alive. let a = outs-same S other (seeks-with_row S.references.threads u f (λ row is p. refl)) o in
-    omega arith) (λ o h. absurd (omega arith)) (λ o h. absurd (omega arith)))
+    (λ o alive. let a = outs-same S other (seeks-with_row S.references.threads u f (λ row is p place. refl)) o in
+    omega arith) (outs-found S T (seeks-with_row S.references.threads u f (λ row is p place. refl)))
+    (λ o h. absurd (omega arith)) (λ o h. absurd (omega arith)))
     (record { fits = (tt, tt); moves = λ g x. sym (held g x) })
 
 pub sound-death : (script : Script) (S : State) (t : ObjNo) (m : DeathMove) → FitsMove script t (Death m) S

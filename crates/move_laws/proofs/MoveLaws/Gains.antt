@@ -1,7 +1,6 @@
 -- A holder gets a reference: to an object that there is, or to a new one; or a thread comes back to one.
-use Rattle.std.proofs.Common.{◌≡◌, inr, ℕ, ◌+◌, List, [], ◌∷◌, ◌++◌, length, arith, refl, ap, ◌∙◌, Option, Some, None, Bool, true, false, subst}
-use Rattle.std.specs.Prelude.{option_map, is_some, if◌then◌else◌}
-use Rattle.std.proofs.lemmas.List.{length_push}
+use Rattle.std.proofs.Common.{◌≡◌, inl, inr, ℕ, ◌≤◌, ◌+◌, List, [], ◌∷◌, ◌++◌, length, arith, refl, ap, ◌∙◌, Option, Some, None, Bool, true, false, subst}
+use Rattle.std.specs.Prelude.{◌==◌, ◌&&◌, option_map, is_some, if◌then◌else◌}
 use Rattle.sym_base.specs.declared.number.ObjNo.{ObjNo}
 use Rattle.sym_base.specs.declared.kind.Kind.{Kind}
 use Rattle.script_types.specs.declared.script.Script.{Script}
@@ -17,9 +16,11 @@ use Rattle.state_rows.specs.declared.thread.Stage.{Stage}
 use Rattle.state_rows.specs.declared.thread.Stage.TheVariants.{Live, Doomed, Cleaned, Buried}
 use Rattle.state_rows.specs.declared.thread.ThreadRow.{ThreadRow}
 use Rattle.machine.specs.declared.state.State.{State}
-use Rattle.machine.specs.Rows.{owed_of, table_of, thread_of, with_row}
+use Rattle.machine.specs.Rows.{object_of, owed_of, table_of, thread_of, with_row}
 use Rattle.machine.specs.Serving.{numbers_left}
 use Rattle.state_rows.specs.HandleSlots.{slot_at}
+use Rattle.state_rows.specs.ObjectRows.{place_of, with_object}
+use Rattle.state_rows.specs.declared.duty.Owed.{Owed}
 use Rattle.machine.specs.Handles.{taken_slot, with_slot}
 use Rattle.machine.specs.Moves.{moved, told, tables_gain, threads_gain, next_object, new_object, with_opened, with_use}
 use Rattle.machine.specs.Out.{found_object, is_returning, part_of, seeks}
@@ -28,23 +29,25 @@ use Rattle.machine.specs.Holding.{is_holder, same_pair}
 use Rattle.machine.specs.HeldIn.{held_in, owed_by, use_names, own_slot, rows_hold, servers_hold}
 use Rattle.machine.specs.Fits.{FitsMove, IsFree, IsFreeSlot, MayMake, IsUnspent}
 use Rattle.machine.specs.WellFormed.{AreTables, AreThreads, AreDuties, AreRows, AreServiceRows, AreServingRows, MayOwe, AreSpent, is_before_use, is_spent, IsUntold}
-use Rattle.move_laws.proofs.Lives.Kinds.{lives-plus, lives-made}
-use Rattle.move_laws.proofs.Lives.Outs.{SeeksSame, out-more, outs-same, seeks-with_row}
+use Rattle.move_laws.proofs.Lives.Kinds.{lives-opened, lives-plus, lives-made}
+use Rattle.move_laws.proofs.Lives.NewObjects.{new_few, next_number_is}
+use Rattle.move_laws.proofs.Lives.Outs.{SeeksSame, out-more, seeks-with_row}
 use Rattle.move_laws.proofs.Lists.Totals.{total-with}
 use Rattle.move_laws.proofs.Holders.HoldersMove.{holders-plus}
 use Rattle.move_laws.proofs.Holders.SlotRows.{slot_holder, rows-with_slot}
 use Rattle.move_laws.proofs.Holders.ThreadRows.{row_holds, rows-with_row}
 use Rattle.move_laws.proofs.References.Counts.{count-with_slot, count-with_row, kernel-with_row}
-use Rattle.move_laws.proofs.References.Same.{if_is, if_not, if_zero}
+use Rattle.move_laws.proofs.References.Same.{if_le, if_not, if_zero}
 use Rattle.move_laws.proofs.RowLaws.Tables.{free_index_is_free, length-with_slot, tables-with_slot, taken_keeps, table_inside}
 use Rattle.move_laws.proofs.RowLaws.Threads.{length-with_row, threads-with_row}
 use Rattle.move_laws.proofs.RowLaws.MessagesKept.{fewer-with_row, messages-with_row}
 use Rattle.move_laws.proofs.RowLaws.Duties.{paid-with_row, duties-threads, none_owed, none_owed_by}
-use Rattle.move_laws.proofs.MoveLaws.RowMoves.{begins-sending, one_row, returning_before, returning_begun, servers-row, serving-kept}
+use Rattle.move_laws.proofs.MoveLaws.RowMoves.{one_row, returning_before, returning_begun, servers-row, serving-kept}
 use Rattle.move_laws.proofs.MoveLaws.Owns.{sound-owned}
 use Rattle.move_laws.proofs.MoveLaws.Groups.{LeavesSynchronization, services-row, serving-more, synchronization-kept, synchronization-left, synchronization-same}
 use Rattle.move_laws.proofs.MoveLaws.Sound.{Sound, sound-of}
-use Rattle.move_laws.proofs.RowLaws.Spent.{made-dead, spent-going, spent-objects, spent-slot}
+use Rattle.move_laws.proofs.RowLaws.ServersKept.{made-over}
+use Rattle.move_laws.proofs.RowLaws.Spent.{made-dead, made-those, spent-going, spent-objects, spent-slot}
 
 -- the tables and threads where a holder got a reference
 pub record HasGained (script : Script) (S : State) (h : Holder) (o : ObjNo) (handles : List (List HandleSlot))
@@ -62,7 +65,7 @@ pub record HasGained (script : Script) (S : State) (h : Holder) (o : ObjNo) (han
   pub synchronization : LeavesSynchronization script S threads S.references.owed
   pub services : AreServiceRows threads S.services
   pub spent : AreSpent S.references.objects handles threads
-  pub serving : AreServingRows (length S.references.objects) threads S.synchronization.locks
+  pub serving : AreServingRows S.references.objects threads S.synchronization.locks
       (IsUntold S.synchronization.requests S.synchronization.logons) S.serving
 
 empty_slot : (c : Bool) (x : ObjNo) (slot : HandleSlot) → slot.object ≡ None → own_slot c x slot ≡ 0
@@ -77,9 +80,10 @@ empty_holder false S owner i x e = empty_slot _ x (slot_at (table_of S owner) i)
 
 unowed : (thread : Bool) (threads : List (Option ThreadRow)) (r : ServerRows) (accepted : ℕ) (owner : ObjNo) (i k : ℕ)
     (y : ObjNo)
-    → MayOwe threads r accepted k (slot_holder thread owner i) y → ⊥
-unowed true threads r accepted owner i k y own = own
-unowed false threads r accepted owner i k y own = own
+    (later : List Owed)
+    → MayOwe threads r accepted k (slot_holder thread owner i) y later → ⊥
+unowed true threads r accepted owner i k y later own = own
+unowed false threads r accepted owner i k y later own = own
 
 -- a handle is none of servers, sessions and messages
 unserved : (S : State) (thread : Bool) (owner : ObjNo) (i : ℕ) (x : ObjNo)
@@ -104,8 +108,8 @@ gained-slot script S thread owner i o is unspent fits rows =
       none =
           let a = empty_holder thread S owner i o free in
           let b = none_owed S.references.threads S.serving.servers S.serving.messages.accepted S.references.owed h o
-          rows.references.duties (unowed thread S.references.threads S.serving.servers S.serving.messages.accepted owner
-          i) in
+          rows.references.duties (λ k y later behind. unowed thread S.references.threads S.serving.servers S.serving.messages.accepted owner
+          i k y later) in
           let c = unserved S thread owner i o in
           omega arith;
       held = λ g x.
@@ -139,7 +143,7 @@ later_goes (Some Return) later = absurd (cc)
 later_goes (Some _) later = refl
 
 gained-use : (script : Script) (S : State) (u o : ObjNo) (go : Option Part → Option Part) → MayUse S u o go
-    → AreServingRows (length S.references.objects)
+    → AreServingRows S.references.objects
     (with_row S.references.threads u (λ row. record row { uses = Some o; part = go row.part })) S.synchronization.locks
     (IsUntold S.synchronization.requests S.synchronization.logons) S.serving
     → AreRows script S
@@ -161,7 +165,7 @@ gained-use script S u o go fits serving rows =
           let a : use_names o (thread_of S u) ≡ option_names o row.uses = ap (use_names o) fits.is in
           let b = unused o in
           let c = none_owed_by S.references.threads S.serving.servers S.serving.messages.accepted S.references.owed u
-          (Temp u) o rows.references.duties (λ k y own. own) fits.paid in
+          (Temp u) o rows.references.duties (λ k y later own. own) fits.paid in
           omega arith;
       held = λ g x.
           let a = rows-with_row S.references.handles S.references.threads S.synchronization.mutexes u f g x (λ r is. refl) in
@@ -224,19 +228,18 @@ gained script S (Temp u) o fits rows =
       paid = fits.paid o;
       goes = λ p e. e;
     })
-    (serving-kept script S u (with_use (Some o)) (λ row. refl)
+    (serving-kept script S u (with_use (Some o)) (λ row. refl) (λ row p e. e)
     (record {
       live = λ row live. live;
       waits = λ row live. refl;
-      sends = λ row. omega arith;
       left = λ row. omega arith;
     }) rows) rows
 gained script S _ o fits rows = absurd fits
 
 -- it leaves who is out
 seeks-gain : (h : Holder) (o : ObjNo) (threads : List (Option ThreadRow)) → SeeksSame threads (threads_gain h o threads)
-seeks-gain (Temp u) o threads = seeks-with_row threads u (with_use (Some o)) (λ row is p. refl)
-seeks-gain _ o threads = λ p. refl
+seeks-gain (Temp u) o threads = seeks-with_row threads u (with_use (Some o)) (λ row is p place. refl)
+seeks-gain _ o threads = λ p place. refl
 
 pub sound-gain : (script : Script) (S : State) (t : ObjNo) (h : Holder) (o : ObjNo) → FitsMove script t (Gain h o) S
     → AreRows script S → Sound script S (moved t (Gain h o) S) (told (Gain h o) S)
@@ -252,21 +255,21 @@ sound-gain script S t h o fits rows =
       tables = g.tables;
       threads = g.threads_are;
       duties = g.duties;
-      synchronization = synchronization-left script S (length S.references.objects)
-          (threads_gain h o S.references.threads) S.references.owed (omega arith) g.synchronization rows;
+      synchronization = synchronization-left script S S.references.objects
+          (threads_gain h o S.references.threads) S.references.owed (λ k none. none) g.synchronization rows;
       services = g.services;
       spent = g.spent;
       serving = g.serving;
     })
-    (lives-plus S T h o refl g.counts (λ p. refl)
-    (λ p. let a = outs-same S (threads_gain h o S.references.threads) (seeks-gain h o S.references.threads) p in
-    omega arith) (rows.lives.alive o fits.1)) (holders-plus S T h o g.none g.held)
+    (lives-plus S T h o (refl, refl, refl) g.counts (λ p. refl)
+    (seeks-gain h o S.references.threads) (rows.lives.alive o fits.1)) (holders-plus S T h o g.none g.held)
 
 -- an object is made, with its first reference in a handle or in use
 abbrev making : State → Kind → List ℕ → Holder → State
 making S kind name h = record S {
   references = record S.references {
-    objects = S.references.objects ++ Some (new_object kind name) ∷ [];
+    objects = with_object S.references.objects (next_object S).0 (new_object kind name S.references.made);
+    made = S.references.made + 1;
     handles = tables_gain h (next_object S) S.references.handles;
     threads = threads_gain h (next_object S) S.references.threads;
   };
@@ -278,28 +281,29 @@ sound-made script S t kind name h may free rows =
     let T = making S kind name h in
     let o = next_object S in
     let g = gained script S h o free rows in
-    let room = may.room in
-    let long = length_push S.references.objects (Some (new_object kind name)) in
+    let row = new_object kind name S.references.made in
+    let next = next_number_is S.mode.reuse S.references.objects in
+    let those = made-those S.references.objects o.0 row next.0 in
     sound-of script S T (Plus h o ∷ []) rows
     (record {
       handles_long = g.handles_long;
       threads_long = g.threads_long;
       owed_long = refl;
-      objects_few = omega arith;
+      objects_few = new_few S.references.objects o.0 row next.0 may.room rows.references.sized.objects_few;
       tables = g.tables;
       threads = g.threads_are;
       duties = g.duties;
-      synchronization = synchronization-left script S (length T.references.objects)
-          (threads_gain h o S.references.threads) S.references.owed (omega arith) g.synchronization rows;
+      synchronization = synchronization-left script S T.references.objects
+          (threads_gain h o S.references.threads) S.references.owed those g.synchronization rows;
       services = g.services;
       spent = spent-objects S.references.objects T.references.objects T.references.handles
-          T.references.threads (made-dead S.references.objects (new_object kind name) refl) g.spent;
-      serving = serving-more (length S.references.objects)
-          (length T.references.objects) T.references.threads S.synchronization.locks
-          (IsUntold S.synchronization.requests S.synchronization.logons) S.serving (omega arith) g.serving;
+          T.references.threads (made-dead S.references.objects o.0 row next.0 refl) those g.spent;
+      serving = serving-more S.references.objects
+          T.references.objects T.references.threads S.synchronization.locks
+          (IsUntold S.synchronization.requests S.synchronization.logons) S.serving those
+          (made-over S.references.objects o.0 row next.0 refl) g.serving;
     })
-    (lives-made S T (new_object kind name) h o refl refl refl g.counts (λ p. refl)
-    (outs-same S (threads_gain h o S.references.threads) (seeks-gain h o S.references.threads)))
+    (lives-made S T row h refl refl refl refl refl g.counts (λ p. refl) (seeks-gain h o S.references.threads))
     (holders-plus S T h o g.none g.held)
 
 pub sound-make : (script : Script) (S : State) (t : ObjNo) (kind : Kind) (name : List ℕ) (h : Holder)
@@ -339,25 +343,26 @@ sound-open script S t u o part fits rows =
       paid = ap (total (owed_by (Temp u) o)) (rows.references.duties.returns u.0 (ap (λ (x : Option ThreadRow). is_returning (part_of x)) back.is ∙ returning));
       goes = λ p e. later;
     }) (record {
-      servers = servers-row script S u f (λ row. refl) rows;
+      servers = servers-row script S u f (λ row. refl) (λ row p e. e) rows;
       messages =
           messages-with_row (IsUntold S.synchronization.requests S.synchronization.logons) threads S.serving.servers
           S.serving.messages u f (λ row is called was live. was live)
-          (begins-sending S u part f (λ row. refl) may.sends rows.serving.messages.few)
           (fewer-with_row numbers_left threads u f
           (λ row is. let a = returning_begun row.part
           (subst (λ (r : ThreadRow). is_returning r.part ≡ true) (one_row S u back.row row back.is is) returning) in
           omega arith)) rows.serving.messages;
     }) rows in
-    let seek : (p : ObjNo) → total (seeks p) (with_row threads u f) + same o p ≡ total (seeks p) threads = λ p.
-    let a = total-with (seeks p) (option_map f) None threads u.0 refl in
-    let was : seeks p (thread_of S u) ≡ same o p = ap (seeks p) back.is
-    ∙ if_is (is_returning back.row.part) (same (found_object back.row) p) returning
-    ∙ ap (λ (x : ObjNo). same x p) back.found in
-    let now : seeks p (option_map f (thread_of S u))
-    ≡ 0 = ap (λ (x : Option ThreadRow). seeks p (option_map f x)) back.is
-    ∙ if_not (is_returning (Some part)) (same (found_object (f back.row)) p) later in
-    omega arith in
+    let seek : (p : ObjNo) (place : ℕ) → (total (seeks p place) threads ≤ total (seeks p place) (with_row threads u f) + same o p)
+    × (total (seeks p place) (with_row threads u f) ≤ total (seeks p place) threads) = λ p place.
+    let a = total-with (seeks p place) (option_map f) None threads u.0 refl in
+    let b : seeks p place (thread_of S u) ≡ seeks p place (Some back.row) = ap (seeks p place) back.is in
+    let c = if_le (is_returning back.row.part && back.row.sought == place) (same (found_object back.row) p) in
+    let d : same (found_object back.row) p ≡ same o p = ap (λ (x : ObjNo). same x p) back.found in
+    let now : seeks p place (option_map f (thread_of S u))
+    ≡ 0 = ap (λ (x : Option ThreadRow). seeks p place (option_map f x)) back.is
+    ∙ if_not (is_returning (Some part) && back.row.sought == place) (same (found_object (f back.row)) p)
+    (ap (λ (b : Bool). b && back.row.sought == place) later) in
+    (omega arith, omega arith) in
     sound-of script S T (told (Open u o part) S) rows
     (record {
       handles_long = g.handles_long;
@@ -367,12 +372,13 @@ sound-open script S t u o part fits rows =
       tables = g.tables;
       threads = g.threads_are;
       duties = g.duties;
-      synchronization = synchronization-left script S (length S.references.objects)
-          (with_row threads u f) S.references.owed (omega arith) g.synchronization rows;
+      synchronization = synchronization-left script S S.references.objects
+          (with_row threads u f) S.references.owed (λ k none. none) g.synchronization rows;
       services = g.services;
       spent = g.spent;
       serving = g.serving;
     })
-    (lives-plus S T (Temp u) o refl g.counts (λ p. refl)
-    (λ p. let a = seek p in out-more S.mode.shared (total (seeks p) threads) (total (seeks p) (with_row threads u f))
-    (same o p) (omega arith)) may.alive) (holders-plus S T (Temp u) o g.none g.held)
+    (lives-opened S T (Temp u) o (refl, refl, refl) g.counts (λ p. refl)
+    (λ p. let place = place_of (object_of S p) in
+    out-more S.mode.shared (total (seeks p place) threads) (total (seeks p place) (with_row threads u f)) (same o p) (seek p place).0)
+    (λ p place some. let a = (seek p place).1 in inl (omega arith)) may.alive) (holders-plus S T (Temp u) o g.none g.held)

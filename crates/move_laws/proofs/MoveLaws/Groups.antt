@@ -4,6 +4,7 @@ use Rattle.sym_base.specs.declared.number.ObjNo.{ObjNo}
 use Rattle.script_types.specs.declared.script.Script.{Script}
 use Rattle.state_rows.specs.declared.duty.Owed.{Owed}
 use Rattle.state_rows.specs.declared.locks.LockRows.{LockRows}
+use Rattle.state_rows.specs.declared.object.ObjectRow.{ObjectRow}
 use Rattle.state_rows.specs.declared.thread.ThreadRow.{ThreadRow}
 use Rattle.machine.specs.declared.services.Services.{Services}
 use Rattle.machine.specs.declared.serving.Serving.{Serving}
@@ -11,9 +12,9 @@ use Rattle.machine.specs.declared.state.State.{State}
 use Rattle.machine.specs.Rows.{with_row}
 use Rattle.machine.specs.WellFormed.{AreAwaited, AreRows, AreServiceRows, AreServingRows, AreSynchronizationRows, AreSynchronized, is_spent}
 use Rattle.move_laws.proofs.RowLaws.Awaited.{awaited-kept}
-use Rattle.move_laws.proofs.RowLaws.Locks.{LeavesLocks, leaves-none, leaves-then, leaves-with_row, locks-left}
+use Rattle.move_laws.proofs.RowLaws.Locks.{HasThose, LeavesLocks, leaves-none, leaves-then, leaves-with_row, locks-left}
 use Rattle.move_laws.proofs.RowLaws.Memories.{memories-with_row}
-use Rattle.move_laws.proofs.RowLaws.ServersKept.{servers-more}
+use Rattle.move_laws.proofs.RowLaws.ServersKept.{KeepsOver, servers-more}
 use Rattle.move_laws.proofs.RowLaws.Synchronized.{IsHolding, synchronized-with_row}
 
 -- what other rows of threads, and other duties, have to leave of what threads synchronize by; the rest of the group doesn't read them
@@ -23,16 +24,16 @@ pub record LeavesSynchronization (script : Script) (S : State) (threads : List (
   pub awaited : AreAwaited threads S.synchronization.requests S.synchronization.logons
 
 -- then the conditions of the group hold, also with more objects
-pub synchronization-left : (script : Script) (S : State) (count : ℕ) (threads : List (Option ThreadRow))
+pub synchronization-left : (script : Script) (S : State) (count : List (Option ObjectRow)) (threads : List (Option ThreadRow))
     (owed : List (List Owed))
-    → length S.references.objects ≤ count → LeavesSynchronization script S threads owed → AreRows script S
+    → HasThose S.references.objects count → LeavesSynchronization script S threads owed → AreRows script S
     → AreSynchronizationRows script (length S.references.threads) count threads owed S.synchronization
 synchronization-left script S count threads owed more leaves rows = record {
   nano = leaves.nano;
   deferred = rows.synchronization.deferred;
   requests = rows.synchronization.requests;
   locks =
-      locks-left (length S.references.objects) count S.references.threads threads S.synchronization.mutexes
+      locks-left S.references.objects count S.references.threads threads S.synchronization.mutexes
       S.references.owed owed S.synchronization.locks more leaves.locks rows.synchronization.locks;
   logons = rows.synchronization.logons;
   awaited = leaves.awaited;
@@ -88,10 +89,11 @@ pub services-row : (threads : List (Option ThreadRow)) (u : ObjNo) (f : ThreadRo
 services-row threads u f r process h = record { memories = memories-with_row threads u f r.memories process h.memories }
 
 -- servers and messages with more objects
-pub serving-more : (objects more : ℕ) (threads : List (Option ThreadRow)) (locks : LockRows)
+pub serving-more : (objects more : List (Option ObjectRow)) (threads : List (Option ThreadRow)) (locks : LockRows)
     (untold : ObjNo → ℕ → Type 0) (r : Serving)
-    → objects ≤ more → AreServingRows objects threads locks untold r → AreServingRows more threads locks untold r
-serving-more objects more threads locks untold r le h = record {
-  servers = servers-more (λ row. is_spent row.stage) objects more threads locks r.owned r.servers le h.servers;
+    → HasThose objects more → KeepsOver objects more → AreServingRows objects threads locks untold r
+    → AreServingRows more threads locks untold r
+serving-more objects more threads locks untold r those over h = record {
+  servers = servers-more (λ row. is_spent row.stage) objects more threads locks r.owned r.servers those over h.servers;
   messages = h.messages;
 }

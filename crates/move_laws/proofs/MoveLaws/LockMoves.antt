@@ -38,7 +38,7 @@ use Rattle.machine.specs.WellFormed.{AreDuties, AreLocks, AreRows, IsAlive, is_s
 use Rattle.move_laws.proofs.Holders.HoldersMove.{HoldersMove, holders-none, holders-plus}
 use Rattle.move_laws.proofs.Holders.MutexRows.{rows-holding, rows-not_holding}
 use Rattle.move_laws.proofs.Lists.Totals.{inside, total_at_least}
-use Rattle.move_laws.proofs.Lives.Bits.{alive_not_gone}
+use Rattle.move_laws.proofs.Lives.Bits.{alive_there}
 use Rattle.move_laws.proofs.Lives.Kinds.{lives-none, lives-plus}
 use Rattle.move_laws.proofs.Lives.LivesMove.{LivesMove}
 use Rattle.move_laws.proofs.MoveLaws.RowMoves.{IsSilent, sound-silent}
@@ -88,13 +88,13 @@ silent-pass S t w o = record {
 -- it is told before a change
 sound-told : (script : Script) (S T : State) (es fs : List Effect) → IsSilent S es → ((p : ObjNo) → removals fs p ≡ 0)
     → AreRows script S → Sound script S T fs → Sound script S T (es ++ fs)
-sound-told script S T es fs quiet none rows sound = sound-then script S S T es fs (sound-silent script S es quiet rows) sound none
+sound-told script S T es fs quiet none rows sound = sound-then script S S T es fs (sound-silent script S es quiet rows) sound quiet.quiet.removals none
 
 -- mutexes, duties and the rows of mutexes and semaphores change
 record ArePassed (script : Script) (S : State) (mutexes : List (List ObjNo)) (owed : List (List Owed)) (new : LockRows) : Type 0 where
   pub long : length owed ≡ length S.references.owed
   pub duties : AreDuties S.references.threads S.serving.servers S.serving.messages.accepted owed
-  pub locks : AreLocks (length S.references.objects) S.references.threads mutexes owed new
+  pub locks : AreLocks S.references.objects S.references.threads mutexes owed new
   pub unlocked : (o : ObjNo) → IsServer S.serving.servers o → owner_at new o ≡ None
   pub sweeps : (p : ObjNo) → total (total (owed_sweeps p)) owed ≡ sweeps_of S p
 
@@ -130,7 +130,7 @@ sound-passed script S mutexes owed new effects h lives holders rows = sound-of s
   serving = record {
     servers =
         servers-locks (λ row. is_spent row.stage)
-        (length S.references.objects) S.references.threads S.synchronization.locks new S.serving.owned S.serving.servers
+        S.references.objects S.references.threads S.synchronization.locks new S.serving.owned S.serving.servers
         h.unlocked rows.serving.servers;
     messages = rows.serving.messages;
   };
@@ -138,14 +138,14 @@ sound-passed script S mutexes owed new effects h lives holders rows = sound-of s
 
 -- the rows of mutexes and semaphores change alone
 sound-alone : (script : Script) (S : State) (new : LockRows)
-    → AreLocks (length S.references.objects) S.references.threads S.synchronization.mutexes S.references.owed new
+    → AreLocks S.references.objects S.references.threads S.synchronization.mutexes S.references.owed new
     → ((o : ObjNo) → IsServer S.serving.servers o → owner_at new o ≡ None) → AreRows script S
     → Sound script S (record S { synchronization = record S.synchronization { locks = new } }) []
 sound-alone script S new locks unlocked rows =
     let T = passing S S.synchronization.mutexes S.references.owed new in
     sound-passed script S S.synchronization.mutexes S.references.owed new []
     (record { long = refl; duties = rows.references.duties; locks = locks; unlocked = unlocked; sweeps = λ p. refl })
-    (lives-none S T refl (λ o. refl) (λ o. refl) (λ o. refl)) (holders-none S T (λ g x. refl)) rows
+    (lives-none S T (refl, refl, refl) (λ o. refl) (λ o. refl) (λ o place. refl)) (holders-none S T (λ g x. refl)) rows
 
 -- a mutex is taken exactly where it is free
 pub taken_free : (owner : Option Owner) (t : ObjNo) → Taken ≡ lock_answer owner t → owner ≡ None
@@ -164,7 +164,7 @@ pub record IsOwn (owner : Option Owner) (t : ObjNo) : Type 0 where
 
 -- what such a thread has to be
 record Gives (S : State) (o t : ObjNo) : Type 0 where
-  pub object : o.0 < length S.references.objects
+  pub object : IsAlive (object_of S o)
   pub thread : is_some (thread_of S t) ≡ true
   pub nowhere : WaitsNowhere S t
   pub going : is_returning (part_of (thread_of S t)) ≡ false
@@ -199,19 +199,19 @@ may_stand S t o joins = record { waits = joins.waits; paid = ap (total (owed_by 
 sound-lock : (script : Script) (S : State) (t o u : ObjNo) (locked : Locked) → MayLock S o u locked → AreRows script S
     → Sound script S (moved t (Locks (Lock o u locked)) S) (lock_told (Lock o u locked))
 sound-lock script S t o u Again may rows =
-    sound-alone script S _ (locks-again (length S.references.objects) S.references.threads
+    sound-alone script S _ (locks-again S.references.objects S.references.threads
     (parts S) rows.synchronization.locks rows.references.sized.objects_few o
-    (alive_not_gone S.references.objects o (rows.lives.alive o may.counted)).1 u)
+    (alive_there (object_of S o) (rows.lives.alive o may.counted)) u)
     (unlocked-set S.synchronization.locks S.serving.servers o _
     (λ is none. ap (λ (w : Option Owner). owner_after_lock w u Again) none) rows.serving.servers.unlocked) rows
 sound-lock script S t o u Waits may rows =
-    sound-alone script S _ (locks-waits (length S.references.objects) S.references.threads
+    sound-alone script S _ (locks-waits S.references.objects S.references.threads
     (parts S) rows.synchronization.locks rows.references.sized.objects_few o
-    (alive_not_gone S.references.objects o (rows.lives.alive o may.counted)).1 u (may_stand S u o (may.joins refl)))
+    (alive_there (object_of S o) (rows.lives.alive o may.counted)) u (may_stand S u o (may.joins refl)))
     (unlocked-set S.synchronization.locks S.serving.servers o _
     (λ is none. ap (λ (w : Option Owner). owner_after_lock w u Waits) none) rows.serving.servers.unlocked) rows
 sound-lock script S t o u Taken may rows =
-    let made = (alive_not_gone S.references.objects o (rows.lives.alive o may.counted)).1 in
+    let made = (alive_there (object_of S o) (rows.lives.alive o may.counted)) in
     let free = taken_free (owner_at S.synchronization.locks o) u may.answer in
     let there : u.0 < length S.synchronization.mutexes = let a = thread_inside S.references.threads u.0 may.thread in
     let b = rows.synchronization.locks.mutexes_sized in
@@ -221,11 +221,11 @@ sound-lock script S t o u Taken may rows =
     let T = passing S mutexes S.references.owed new in
     let few = rows.references.sized.objects_few in
     let none : held_in S (Own u) o ≡ 0 =
-    let a = none_held (length S.references.objects) S.references.threads (parts S) rows.synchronization.locks few o made free u in
+    let a = none_held S.references.objects S.references.threads (parts S) rows.synchronization.locks few o made free u in
     let b = none_owed_by S.references.threads S.serving.servers S.serving.messages.accepted S.references.owed u
-    (Own u) o rows.references.duties (λ k y own. own) (ap (total (owed_by (Own u) o)) may.paid) in
+    (Own u) o rows.references.duties (λ k y later own. own) (ap (total (owed_by (Own u) o)) may.paid) in
     let c = unowned-other (λ row. is_spent row.stage)
-    (length S.references.objects) S.references.threads S.synchronization.locks S.serving.owned S.serving.servers u o
+    S.references.objects S.references.threads S.synchronization.locks S.serving.owned S.serving.servers u o
     may.other rows.serving.servers in
     omega arith in
     sound-told script S T (Take u (Object o) ∷ []) (Plus (Own u) o ∷ []) (silent-take S u o) (λ p. refl) rows
@@ -233,15 +233,15 @@ sound-lock script S t o u Taken may rows =
     (record {
       long = refl;
       duties = rows.references.duties;
-      locks = locks-taken (length S.references.objects) S.references.threads
+      locks = locks-taken S.references.objects S.references.threads
           (parts S) rows.synchronization.locks few o made u free there;
       unlocked = unlocked-set S.synchronization.locks S.serving.servers o _
           (λ is none. let no : is_some (server_at S.serving.servers o) ≡ false = ap is_some may.other in
           absurd (cc)) rows.serving.servers.unlocked;
       sweeps = λ p. refl;
     })
-    (lives-plus S T (Own u) o refl (λ p. let a = count-holding S.synchronization.mutexes u o p there in omega arith)
-    (λ p. refl) (λ p. omega arith) (rows.lives.alive o may.counted))
+    (lives-plus S T (Own u) o (refl, refl, refl) (λ p. let a = count-holding S.synchronization.mutexes u o p there in omega arith)
+    (λ p. refl) (λ p place. refl) (rows.lives.alive o may.counted))
     (holders-plus S T (Own u) o none (λ g x. let a = rows-holding S.references.handles S.references.threads
     S.synchronization.mutexes u o there g x in omega arith)) rows)
 
@@ -262,8 +262,8 @@ sound-freed script S t o may few rows =
     let there : t.0 < length S.synchronization.mutexes = let b = rows.synchronization.locks.mutexes_sized in omega arith in
     let owes : t.0 < length S.references.owed = let a = rows.references.sized.duties in omega arith in
     let small = rows.references.sized.objects_few in
-    let once = held_once (length S.references.objects) S.references.threads
-    (parts S) rows.synchronization.locks small o may.object t own.own own.is own.thread there (may.nowhere o) in
+    let once = held_once S.references.objects S.references.threads
+    (parts S) rows.synchronization.locks small o (alive_there (object_of S o) may.object) t own.own own.is own.thread there (may.nowhere o) in
     let mutexes = not_holding S.synchronization.mutexes t o in
     let owed = owing S.references.owed t (Close (Own t) o ∷ []) in
     let new = after_unlock S.synchronization.locks o Freed in
@@ -276,15 +276,15 @@ sound-freed script S t o may few rows =
     (record {
       long = length-set S.references.owed t.0 _;
       duties = duties-close script S t o may few rows;
-      locks = locks-freed (length S.references.objects) S.references.threads
-          (parts S) rows.synchronization.locks small o may.object t own.own own.is own.thread there (may.nowhere o);
+      locks = locks-freed S.references.objects S.references.threads
+          (parts S) rows.synchronization.locks small o (alive_there (object_of S o) may.object) t own.own own.is own.thread there (may.nowhere o);
       unlocked = unlocked-set S.synchronization.locks S.serving.servers o _
           (λ is none. ap (λ (w : Option Owner). owner_after_unlock w Freed) none) rows.serving.servers.unlocked;
       sweeps = sweeps;
     })
-    (lives-none S T refl (λ p. let a = count-not_holding S.synchronization.mutexes t o p there once in
+    (lives-none S T (refl, refl, refl) (λ p. let a = count-not_holding S.synchronization.mutexes t o p there once in
     let b = total-owing (owed_names p) S.references.owed t (Close (Own t) o ∷ []) owes in omega arith) sweeps
-    (λ p. refl))
+    (λ p place. refl))
     (holders-none S T (λ g x. let a = rows-not_holding S.references.handles S.references.threads
     S.synchronization.mutexes t o there once g x in
     let b = total-owing (owed_by g x) S.references.owed t (Close (Own t) o ∷ []) owes in omega arith)) rows)
@@ -301,8 +301,8 @@ sound-given script S t o w may best few rows =
     let waiter : w.0 < length S.synchronization.mutexes = let a = inside S.references.threads w.0 awaits.row awaits.is in omega arith in
     let owes : t.0 < length S.references.owed = let a = rows.references.sized.duties in omega arith in
     let small = rows.references.sized.objects_few in
-    let once = held_once (length S.references.objects) S.references.threads
-    (parts S) rows.synchronization.locks small o may.object t own.own own.is own.thread there (may.nowhere o) in
+    let once = held_once S.references.objects S.references.threads
+    (parts S) rows.synchronization.locks small o (alive_there (object_of S o) may.object) t own.own own.is own.thread there (may.nowhere o) in
     let left = not_holding S.synchronization.mutexes t o in
     let behind : w.0 < length left = let a = length-set S.synchronization.mutexes t.0 (without o (get_or S.synchronization.mutexes t.0 [])) in omega arith in
     let mutexes = holding left w o in
@@ -315,14 +315,14 @@ sound-given script S t o w may best few rows =
     let nowhere = may.nowhere o in
     cc in
     let none : held_in S (Own w) o ≡ 0 =
-    let a = given_none (length S.references.objects) S.references.threads
-    (parts S) rows.synchronization.locks small o may.object t own.own own.is own.thread there (may.nowhere o) w in
+    let a = given_none S.references.objects S.references.threads
+    (parts S) rows.synchronization.locks small o (alive_there (object_of S o) may.object) t own.own own.is own.thread there (may.nowhere o) w in
     let b = held-not_holding S.synchronization.mutexes t o w o there once in
     let c = if_not (t.0 == w.0) (same o o) (eqb_apart t.0 w.0 apart) in
     let d = none_owed_by S.references.threads S.serving.servers S.serving.messages.accepted S.references.owed w
-    (Own w) o rows.references.duties (λ k y own. own) (rows.synchronization.locks.paid w o among) in
+    (Own w) o rows.references.duties (λ k y later own. own) (rows.synchronization.locks.paid w o among) in
     let e = unowned-locked (λ row. is_spent row.stage)
-    (length S.references.objects) S.references.threads S.synchronization.locks S.serving.owned S.serving.servers w o
+    S.references.objects S.references.threads S.synchronization.locks S.serving.owned S.serving.servers w o
     own.own own.is rows.serving.servers in
     omega arith in
     let alive : IsAlive (object_of S o) = rows.lives.alive o
@@ -335,16 +335,16 @@ sound-given script S t o w may best few rows =
     (record {
       long = length-set S.references.owed t.0 _;
       duties = duties-close script S t o may few rows;
-      locks = locks-given (length S.references.objects) S.references.threads
-          (parts S) rows.synchronization.locks small o may.object t own.own own.is own.thread there (may.nowhere o) w waiter;
+      locks = locks-given S.references.objects S.references.threads
+          (parts S) rows.synchronization.locks small o (alive_there (object_of S o) may.object) t own.own own.is own.thread there (may.nowhere o) w waiter;
       unlocked = unlocked-set S.synchronization.locks S.serving.servers o _
           (λ is none. let held = own.is in absurd (cc)) rows.serving.servers.unlocked;
       sweeps = sweeps;
     })
-    (lives-plus S T (Own w) o refl (λ p. let a = count-not_holding S.synchronization.mutexes t o p there once in
+    (lives-plus S T (Own w) o (refl, refl, refl) (λ p. let a = count-not_holding S.synchronization.mutexes t o p there once in
     let b = count-holding left w o p behind in
     let c = total-owing (owed_names p) S.references.owed t (Close (Own t) o ∷ []) owes in omega arith) sweeps
-    (λ p. omega arith) alive)
+    (λ p place. refl) alive)
     (holders-plus S T (Own w) o none (λ g x. let a = rows-not_holding S.references.handles S.references.threads
     S.synchronization.mutexes t o there once g x in
     let b = rows-holding S.references.handles S.references.threads left w o behind g x in
@@ -366,13 +366,13 @@ sound-unlock : (script : Script) (S : State) (t o : ObjNo) (unlocked : Unlocked)
     → total weight (owed_of S t) + 4 ≤ 12 → AreRows script S
     → Sound script S (moved t (Locks (Unlock o t unlocked)) S) (lock_told (Unlock o t unlocked))
 sound-unlock script S t o Level may few rows =
-    sound-alone script S _ (locks-level (length S.references.objects) S.references.threads
-    (parts S) rows.synchronization.locks rows.references.sized.objects_few o may.object)
+    sound-alone script S _ (locks-level S.references.objects S.references.threads
+    (parts S) rows.synchronization.locks rows.references.sized.objects_few o (alive_there (object_of S o) may.object))
     (unlocked-set S.synchronization.locks S.serving.servers o _
     (λ is none. ap (λ (w : Option Owner). owner_after_unlock w Level) none) rows.serving.servers.unlocked) rows
 sound-unlock script S t o NotOwner may few rows =
-    sound-alone script S _ (locks-not_owner (length S.references.objects) S.references.threads
-    (parts S) rows.synchronization.locks rows.references.sized.objects_few o may.object)
+    sound-alone script S _ (locks-not_owner S.references.objects S.references.threads
+    (parts S) rows.synchronization.locks rows.references.sized.objects_few o (alive_there (object_of S o) may.object))
     (unlocked-set S.synchronization.locks S.serving.servers o _
     (λ is none. ap (λ (w : Option Owner). owner_after_unlock w NotOwner) none) rows.serving.servers.unlocked) rows
 sound-unlock script S t o Freed may few rows =
@@ -393,8 +393,8 @@ pub sound-locks : (script : Script) (S : State) (t : ObjNo) (m : LockMove) → F
     → total weight (owed_of S t) + lock_owes m ≤ 12 → AreRows script S
     → Sound script S (moved t (Locks m) S) (told (Locks m) S)
 sound-locks script S t (Start o count) fits few rows =
-    sound-alone script S _ (locks-start (length S.references.objects) S.references.threads
-    (parts S) rows.synchronization.locks rows.references.sized.objects_few o fits.object count fits.few)
+    sound-alone script S _ (locks-start S.references.objects S.references.threads
+    (parts S) rows.synchronization.locks rows.references.sized.objects_few o (alive_there (object_of S o) fits.object) count fits.few)
     rows.serving.servers.unlocked rows
 sound-locks script S t (Lock o u locked) fits few rows = sound-lock script S t o u locked fits rows
 sound-locks script S t (Unlock o u unlocked) fits few rows =
@@ -405,16 +405,16 @@ sound-locks script S t (Free o u best) fits few rows =
     subst (λ (y : ObjNo). Sound script S (moved t (Locks (Free o y best)) S) (lock_told (Free o y best))) (sym fits.0)
     (sound-free script S t o best (subst (λ (y : ObjNo). MayFree S o y best) fits.0 fits.1) few rows)
 sound-locks script S t (Leave u) fits few rows =
-    sound-alone script S _ (locks-leave (length S.references.objects) S.references.threads
+    sound-alone script S _ (locks-leave S.references.objects S.references.threads
     (parts S) u rows.synchronization.locks) rows.serving.servers.unlocked rows
 sound-locks script S t (WaitOn o u) fits few rows =
-    sound-alone script S _ (locks-wait (length S.references.objects) S.references.threads
+    sound-alone script S _ (locks-wait S.references.objects S.references.threads
     (parts S) rows.synchronization.locks rows.references.sized.objects_few o
-    (alive_not_gone S.references.objects o fits.alive).1 u (λ zero. may_stand S u o (fits.joins zero)))
+    (alive_there (object_of S o) fits.alive) u (λ zero. may_stand S u o (fits.joins zero)))
     rows.serving.servers.unlocked rows
 sound-locks script S t (Signal o signalled) fits few rows =
-    sound-alone script S _ (locks-signal (length S.references.objects) S.references.threads
-    (parts S) rows.synchronization.locks rows.references.sized.objects_few o fits.object signalled)
+    sound-alone script S _ (locks-signal S.references.objects S.references.threads
+    (parts S) rows.synchronization.locks rows.references.sized.objects_few o (alive_there (object_of S o) fits.object) signalled)
     rows.serving.servers.unlocked rows
 
 -- what such a move adds to the weight of what its thread owes

@@ -70,7 +70,7 @@ lost-slot script S t thread owner i o is there going few rows =
       sweeps = λ p. refl;
       link = refl;
       handles_long = length-with_slot S.references.handles owner i freed_slot;
-      seeks = λ p. refl;
+      seeks = λ p place. refl;
       threads_long = refl;
       owed_long = refl;
       tables = tables-with_slot S.references.handles owner i freed_slot freed_keeps rows.references.tables;
@@ -130,7 +130,7 @@ lost-use script S t u o uses going few rows =
       sweeps = λ p. refl;
       link = ap (λ (a : Option ObjNo). link_or a (server_of S.serving.servers o)) (link-with_row S.references.threads u f o.0 (λ r. refl));
       handles_long = refl;
-      seeks = seeks-with_row S.references.threads u f (λ r is p. refl);
+      seeks = seeks-with_row S.references.threads u f (λ r is p place. refl);
       threads_long = length-with_row S.references.threads u f;
       owed_long = refl;
       tables = rows.references.tables;
@@ -159,8 +159,8 @@ lost-use script S t u o uses going few rows =
           (record { stage = λ r. refl; unused = λ r e. refl; waits = λ r e. e; going = λ r e. e; link = λ r e. e })
           rows.references.spent;
       serving =
-          serving-kept script S u f (λ r. refl) (record
-          { live = λ r live. live; waits = λ r live. refl; sends = λ r. omega arith; left = λ r. omega arith }) rows;
+          serving-kept script S u f (λ r. refl) (λ r p e. e) (record
+          { live = λ r live. live; waits = λ r live. refl; left = λ r. omega arith }) rows;
       going = (paid-with_row S.references.threads u f (λ r h. h) t.0).going going;
       few = omega arith;
     }
@@ -181,8 +181,8 @@ lost-link script S t s o linked going few rows =
     let new = after_detach S.serving.servers s in
     let free = server_unlinked script S o (rows.serving.servers.sessions s o linked) rows in
     let light = close_weight (dies S o) o (link_of S o) in
-    let bits = detached_bits S.references.threads S.serving.servers S.serving.messages.outstanding s in
-    let used = bits.0 in let there = bits.1 in
+    let bits = detached_bits S.serving.servers s in
+    let used = bits.0 in
     let still : (x : ObjNo) → IsSession S.serving.servers x → IsSession new x = λ x is. mapped-some detached S.serving.servers.sessions s.0 x.0 ∙ is in
     record {
       counts =
@@ -200,14 +200,14 @@ lost-link script S t s o linked going few rows =
           ∙ ap link_of_session (mapped-none detached S.serving.servers.sessions s.0 o.0 free.1)
           ∙ sym free.2;
       handles_long = refl;
-      seeks = λ p. refl;
+      seeks = λ p place. refl;
       threads_long = refl;
       owed_long = refl;
       tables = rows.references.tables;
       threads_are = rows.references.threads;
       duties =
           duties-servers S.references.threads S.serving.servers new S.serving.messages.accepted S.serving.messages.accepted
-          S.references.owed (omega arith) (λ x _ none. mapped-none detached S.serving.servers.sessions s.0 x.0 none) still
+          S.references.owed (omega arith) (λ x _ none. mapped-none detached S.serving.servers.sessions s.0 x.0 none)
           rows.references.duties;
       synchronization = synchronization-same script S rows;
       services = rows.services;
@@ -215,11 +215,12 @@ lost-link script S t s o linked going few rows =
       serving = record {
         servers =
             servers-detach (λ row. is_spent row.stage)
-            (length S.references.objects) S.references.threads S.synchronization.locks S.serving.owned S.serving.servers s
+            S.references.objects S.references.threads S.synchronization.locks S.serving.owned S.serving.servers s
             rows.serving.servers;
         messages =
             messages-sessions (IsUntold S.synchronization.requests S.synchronization.logons) S.references.threads
-            S.serving.servers new S.serving.messages still (let a = rows.serving.messages.few in omega arith)
+            S.serving.servers new S.serving.messages (λ message among. still message.row.session)
+            (λ x. let a = bits.1 x in let b = rows.serving.messages.closed x in omega arith)
             (let a = rows.serving.messages.numbered in omega arith) rows.serving.messages;
       };
       going = going;
@@ -241,7 +242,7 @@ lost-own script S t u o owns going few rows =
       sweeps = λ p. refl;
       link = refl;
       handles_long = refl;
-      seeks = λ p. refl;
+      seeks = λ p place. refl;
       threads_long = refl;
       owed_long = refl;
       tables = rows.references.tables;
@@ -253,7 +254,7 @@ lost-own script S t u o owns going few rows =
       serving = record {
         servers =
             servers-unowned (λ row. is_spent row.stage)
-            (length S.references.objects) S.references.threads S.synchronization.locks S.serving.owned S.serving.servers u o
+            S.references.objects S.references.threads S.synchronization.locks S.serving.owned S.serving.servers u o
             inside once rows.serving.servers;
         messages = rows.serving.messages;
       };

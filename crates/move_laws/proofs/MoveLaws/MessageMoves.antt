@@ -34,6 +34,7 @@ use Rattle.move_laws.proofs.Holders.HoldersMove.{holders-none}
 use Rattle.move_laws.proofs.Holders.Serving.{holds-finished, holds-message, holds-same}
 use Rattle.move_laws.proofs.Lists.Contents.{found_there, total_some}
 use Rattle.move_laws.proofs.Lists.Totals.{total-append}
+use Rattle.move_laws.proofs.Lives.Places.{outs-found}
 use Rattle.move_laws.proofs.Lives.Kinds.{lives-none, lives-quiet}
 use Rattle.move_laws.proofs.Lives.LivesMove.{zero_or}
 use Rattle.move_laws.proofs.MoveLaws.Groups.{synchronization-left, synchronization-same, synchronization-then}
@@ -75,7 +76,7 @@ sound-taken script S (Some m) rows =
             S.serving.servers S.serving.messages m taken_row (λ row. refl) (λ row. refl) (λ row. refl) rows.serving.messages;
       };
     })
-    (lives-none S T refl (λ o. let a = stays (message_names o) (λ x. refl) in omega arith) (λ o. refl) (λ o. refl))
+    (lives-none S T (refl, refl, refl) (λ o. let a = stays (message_names o) (λ x. refl) in omega arith) (λ o. refl) (λ o place. refl))
     (holders-none S T (λ g x. let a = holds-same S.serving.owned S.serving.servers.sessions
     S.serving.messages.outstanding T.serving.messages.outstanding g x (λ n. stays (message_holds n x) (λ y. refl)) in
     omega arith))
@@ -85,7 +86,7 @@ unheld_next : (script : Script) (S : State) (x : ObjNo) → AreRows script S →
 unheld_next script S x rows =
     let n = next_number S.serving.messages in
     let a = none_owed S.references.threads S.serving.servers S.serving.messages.accepted S.references.owed
-    (OfMessage n) x rows.references.duties (λ k y own. absurd (omega arith)) in
+    (OfMessage n) x rows.references.duties (λ k y later behind own. absurd (omega arith)) in
     let b : total (message_holds n x) S.serving.messages.outstanding ≡ 0 = zero_or (total (message_holds n x) S.serving.messages.outstanding) (λ some.
     let one = total_some (message_holds n x) S.serving.messages.outstanding some in
     let at = numbered n x one.0 one.2 in
@@ -113,14 +114,16 @@ sound-accept script S slots row may rows =
       duties =
           duties-servers S.references.threads S.serving.servers S.serving.servers S.serving.messages.accepted
           (S.serving.messages.accepted + 1) S.references.owed (omega arith) (λ x _ none. none)
-          (λ x is. is) rows.references.duties;
+          rows.references.duties;
       synchronization = rows.synchronization;
       services = rows.services;
       spent = rows.references.spent;
       serving = record { servers = rows.serving.servers; messages = messages-accepted S slots row may rows.serving.messages };
     })
-    (lives-quiet S T (message_told (Accept slots row) S.serving.messages) refl (record { minuses = λ o. refl; deaths = λ o. refl; removals = λ o. refl })
-    (λ o. let a = total-append (message_names o) S.serving.messages.outstanding (new ∷ []) in omega arith) (λ o. refl) (λ o inside alive. omega arith)
+    (lives-quiet S T (message_told (Accept slots row) S.serving.messages) (refl, refl, refl)
+    (record { minuses = λ o. refl; deaths = λ o. refl; removals = λ o. refl })
+    (λ o. let a = total-append (message_names o) S.serving.messages.outstanding (new ∷ []) in omega arith) (λ o. refl) (λ o alive. omega arith)
+    (outs-found S T (λ o place. refl))
     (λ o some. elim (cases_lt 0 (same row.session o)) as (λ _. IsAlive (object_of S o)) [
       | inl session ↦ subst (λ (y : ObjNo). IsAlive (object_of S y)) (same_is row.session o session) (rows.lives.alive row.session may.session)
       | inr other ↦ subst (λ (y : ObjNo). IsAlive (object_of S y)) (same_is row.client o (omega arith)) (rows.lives.alive row.client may.client)
@@ -155,7 +158,7 @@ sound-accept script S slots row may rows =
     -- no session is a thread
     apart : same row.session row.client ≡ 0
     apart = zero_or (same row.session row.client) (λ some.
-        let none = rows.serving.servers.sessions_later row.client (thread_inside S.references.threads row.client.0 may.thread) in
+        let none = rows.serving.servers.sessions_apart row.client may.thread in
         let known = may.known in
         let own = same_is row.session row.client some in
         let lost : is_some (session_at S.serving.servers row.session)
@@ -181,7 +184,7 @@ sound-finished script S t m code message found may few rows =
       duties =
           duties-owing S.references.threads S.serving.servers S.serving.messages.accepted S.references.owed t more
           (given, (given, tt)) (omega arith) may.going rows.references.duties;
-      synchronization = synchronization-left script S (length S.references.objects) S.references.threads (owing S.references.owed t more) (omega arith)
+      synchronization = synchronization-left script S S.references.objects S.references.threads (owing S.references.owed t more) (λ k none. none)
           (synchronization-then script S S.references.threads S.references.owed (owing S.references.owed t more)
           (synchronization-same script S rows) (leaves-owing S.references.threads S.references.owed t more
           S.synchronization.locks (λ u x. refl))) rows;
@@ -194,11 +197,11 @@ sound-finished script S t m code message found may few rows =
             S.serving.servers S.serving.messages m rows.serving.messages;
       };
     })
-    (lives-quiet S T (effect.Finish m code ∷ []) refl (record { minuses = λ o. refl; deaths = λ o. refl; removals = λ o. refl })
+    (lives-quiet S T (effect.Finish m code ∷ []) (refl, refl, refl) (record { minuses = λ o. refl; deaths = λ o. refl; removals = λ o. refl })
     (λ o. let a = one_goes (message_names o) m S.serving.messages.outstanding message rows.serving.messages.rising
     found in let b = total-owing (owed_names o) S.references.owed t more here in omega arith)
     (λ o. let b = total-owing (owed_sweeps o) S.references.owed t more here in omega arith)
-    (λ o inside alive. omega arith) (λ o some. absurd (omega arith)) (λ o some. absurd (omega arith)))
+    (λ o alive. omega arith) (outs-found S T (λ o place. refl)) (λ o some. absurd (omega arith)) (λ o some. absurd (omega arith)))
     (record {
       fits = (tt, tt);
       moves = λ g x. let a = holds-finished S.serving.owned S.serving.servers.sessions

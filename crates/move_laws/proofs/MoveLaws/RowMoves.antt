@@ -1,7 +1,7 @@
 -- Moves that change a thread's row, and no reference: a find and a miss, a number that is kept, another step, a register, a wait and its end, a
 -- priority; and a fill.
-use Rattle.std.proofs.Common.{◌≡◌, ◌⊎◌, inl, inr, ℕ, ◌+◌, ◌<◌, ◌≤◌, true, false, List, [], ◌∷◌, length, get_or, arith, refl, sym, subst, ap, ◌∙◌, Option, Some, None}
-use Rattle.std.specs.Prelude.{option_map, if◌then◌else◌}
+use Rattle.std.proofs.Common.{◌≡◌, ◌⊎◌, inl, inr, ℕ, ◌+◌, ◌<◌, ◌≤◌, Bool, true, false, List, [], ◌∷◌, length, get_or, arith, refl, sym, subst, ap, ◌∙◌, Option, Some, None}
+use Rattle.std.specs.Prelude.{◌==◌, ◌&&◌, ◌%◌, is_some, option_map, if◌then◌else◌}
 use Rattle.std.proofs.lemmas.Bool.{cases_eq, cases_lt}
 use Rattle.std.proofs.lemmas.List.{length-set}
 use Rattle.sym_base.specs.declared.number.ObjNo.{ObjNo}
@@ -11,8 +11,10 @@ use Rattle.entry_log.specs.declared.effect.Holder.TheVariants.{Temp, Link}
 use Rattle.entry_log.specs.declared.effect.Effect.{Effect}
 use Rattle.entry_log.specs.declared.effect.Effect.TheVariants.{Seek, Missed}
 use Rattle.entry_log.specs.declared.step.Part.{Part}
-use Rattle.entry_log.specs.declared.step.Part.TheVariants.{Return, Send}
+use Rattle.entry_log.specs.declared.step.Part.TheVariants.{Return}
 use Rattle.machine.specs.declared.moves.Move.TheVariants.{Find, Miss, GoOn, Keep, Write, WriteMessage, Wait, Wake, SetPriority, Fill}
+use Rattle.state_rows.specs.ObjectRows.{place_of}
+use Rattle.state_rows.specs.declared.object.ObjectRow.{ObjectRow}
 use Rattle.state_rows.specs.declared.thread.Waiting.{Waiting}
 use Rattle.state_rows.specs.declared.thread.Waiting.TheVariants as waiting
 use Rattle.state_rows.specs.declared.thread.ThreadRow.{ThreadRow}
@@ -29,16 +31,17 @@ use Rattle.machine.specs.HeldIn.{held_in, use_names}
 use Rattle.machine.specs.Task.{instructions_of}
 use Rattle.machine.specs.Out.{found_object, is_returning, outs_of, part_of, seeks}
 use Rattle.machine.specs.Fits.{FitsMove, IsBack, MayMiss, WaitsNowhere}
-use Rattle.machine.specs.FitsServers.{IsUncalled, MaySend}
-use Rattle.machine.specs.Serving.{AreMessages, AreServers, begun, is_sending, numbers_left, sending_bit, sessions_there, sessions_used}
+use Rattle.machine.specs.FitsServers.{IsUncalled}
+use Rattle.machine.specs.Serving.{AreMessages, AreServers, begun, numbers_left}
 use Rattle.machine.specs.WellFormed.{IsAlive, is_before_use, IsThread, AreSynchronized, AreSynchronizationRows, AreServiceRows, AreRows, AreServingRows, AreSpent, IsUntold, is_spent}
-use Rattle.move_laws.proofs.Lives.Bits.{gone, not_gone_alive}
+use Rattle.move_laws.proofs.Lives.Bits.{there_inside}
 use Rattle.move_laws.proofs.Lives.Kinds.{IsQuiet, lives-quiet}
-use Rattle.move_laws.proofs.Lives.Outs.{KeepsSeeks, out-le, outs-same, seeks-back, seeks-with_row}
+use Rattle.move_laws.proofs.Lives.Outs.{KeepsSeeks, out-le, outs-same, seeks-back, seeks-with_row, seeks_is}
+use Rattle.move_laws.proofs.Lives.Places.{HasPlace, OutsFound, outs-found}
 use Rattle.move_laws.proofs.Holders.ThreadRows.{row_holds, rows-with_row, row-other}
 use Rattle.move_laws.proofs.Lists.Totals.{total-with}
 use Rattle.move_laws.proofs.References.Counts.{count-with_row, kernel-with_row}
-use Rattle.move_laws.proofs.References.Same.{if_is, if_not, same_is}
+use Rattle.move_laws.proofs.References.Same.{if_not, same_is, same_object}
 use Rattle.move_laws.proofs.RowLaws.Threads.{KeepsThread, length-with_row, threads-with_row, none-with_row}
 use Rattle.move_laws.proofs.RowLaws.Duties.{IsPaidIn, paid-with_row, duties-threads}
 use Rattle.move_laws.proofs.RowLaws.Locks.{leaves-nowhere, leaves-with_row}
@@ -56,7 +59,7 @@ use Rattle.state_rows.specs.declared.thread.Stage.TheVariants.{Live}
 pub record IsSilent (S : State) (effects : List Effect) : Type 0 where
   pub quiet : IsQuiet effects
   pub pluses : (o : ObjNo) → pluses effects o ≡ 0
-  pub found : (o : ObjNo) → 0 < finds effects o → o.0 < length S.references.objects
+  pub found : (o : ObjNo) → 0 < finds effects o → is_some (object_of S o) ≡ true
   pub fits : EachFitsHolders (held_in S) effects
   pub after : (g : Holder) (x : ObjNo) → held_after_all (held_in S) effects g x ≡ held_in S g x
 
@@ -81,17 +84,18 @@ pub names-map : (f : ThreadRow → ThreadRow) (x : Option ThreadRow) (o : ObjNo)
 names-map f None o h = (refl, refl, refl)
 names-map f (Some row) o h = let a = h.uses row in let b = h.link row in (cc, cc, cc)
 
--- a change that leaves its stage leaves the rows of servers
+-- a change that leaves its stage and gives it no other link leaves the rows of servers
 pub servers-row : (script : Script) (S : State) (u : ObjNo) (f : ThreadRow → ThreadRow)
-    → ((row : ThreadRow) → (f row).stage ≡ row.stage) → AreRows script S
-    → AreServers (λ row. is_spent row.stage) (length S.references.objects)
+    → ((row : ThreadRow) → (f row).stage ≡ row.stage) → ((row : ThreadRow) (p : ObjNo) → (f row).link ≡ Some p → row.link ≡ Some p)
+    → AreRows script S
+    → AreServers (λ row. is_spent row.stage) S.references.objects
     (with_row S.references.threads u f) S.synchronization.locks S.serving.owned S.serving.servers
-servers-row script S u f stage rows =
+servers-row script S u f stage link rows =
     servers-kept (λ row. is_spent row.stage)
-    (length S.references.objects) S.references.threads S.synchronization.locks S.serving.owned S.serving.servers u f
-    stage (λ row. ap is_spent (stage row)) rows.serving.servers
+    S.references.objects S.references.threads S.synchronization.locks S.serving.owned S.serving.servers u f
+    stage (λ row. ap is_spent (stage row)) link rows.serving.servers
 
--- and one that begins no sending leaves those of messages
+-- and one that goes back to no step those of messages
 pub messages-row : (script : Script) (S : State) (u : ObjNo) (f : ThreadRow → ThreadRow) → KeepsMessages f
     → AreRows script S
     → AreMessages (IsUntold S.synchronization.requests S.synchronization.logons)
@@ -100,17 +104,19 @@ messages-row script S u f keeps rows =
     messages-kept (IsUntold S.synchronization.requests S.synchronization.logons) S.references.threads S.serving.servers
     S.serving.messages u f keeps rows.serving.messages
 
--- and one that leaves its stage and begins no sending those of both
+-- and one that does both, those of both
 pub serving-kept : (script : Script) (S : State) (u : ObjNo) (f : ThreadRow → ThreadRow)
-    → ((row : ThreadRow) → (f row).stage ≡ row.stage) → KeepsMessages f → AreRows script S
-    → AreServingRows (length S.references.objects) (with_row S.references.threads u f) S.synchronization.locks
+    → ((row : ThreadRow) → (f row).stage ≡ row.stage) → ((row : ThreadRow) (p : ObjNo) → (f row).link ≡ Some p → row.link ≡ Some p)
+    → KeepsMessages f → AreRows script S
+    → AreServingRows S.references.objects (with_row S.references.threads u f) S.synchronization.locks
     (IsUntold S.synchronization.requests S.synchronization.logons) S.serving
-serving-kept script S u f stage keeps rows = record { servers = servers-row script S u f stage rows; messages = messages-row script S u f keeps rows }
+serving-kept script S u f stage link keeps rows = record { servers = servers-row script S u f stage link rows; messages = messages-row script S u f keeps rows }
 
 -- a change after which who isn't out any more was out on what is gone
 pub sound-row-out : (script : Script) (S : State) (u : ObjNo) (f : ThreadRow → ThreadRow) (effects : List Effect)
-    → ((o : ObjNo) → o.0 < length S.references.objects → gone S.references.objects o ≡ 0 → outs_of S o
+    → ((o : ObjNo) → IsAlive (object_of S o) → outs_of S o
     ≤ outs_of (record S { references = record S.references { threads = with_row S.references.threads u f } }) o)
+    → OutsFound S (record S { references = record S.references { threads = with_row S.references.threads u f } })
     → KeepsReferences f
     → ((row : ThreadRow) → thread_of S u ≡ Some row → stage_holds (f row).stage ≡ stage_holds row.stage)
     → ((row : ThreadRow) → thread_of S u ≡ Some row → IsThread script (length S.references.threads) row
@@ -119,10 +125,10 @@ pub sound-row-out : (script : Script) (S : State) (u : ObjNo) (f : ThreadRow →
     ⊎ IsPaidIn S.references.threads (with_row S.references.threads u f) k)
     → IsSilent S effects → LeavesSynchronization script S (with_row S.references.threads u f) S.references.owed
     → AreSpent S.references.objects S.references.handles (with_row S.references.threads u f)
-    → AreServingRows (length S.references.objects) (with_row S.references.threads u f) S.synchronization.locks
+    → AreServingRows S.references.objects (with_row S.references.threads u f) S.synchronization.locks
     (IsUntold S.synchronization.requests S.synchronization.logons) S.serving
     → AreRows script S → Sound script S (record S { references = record S.references { threads = with_row S.references.threads u f } }) effects
-sound-row-out script S u f effects outs keeps holds thread paid quiet leaves spent serving rows =
+sound-row-out script S u f effects outs sought keeps holds thread paid quiet leaves spent serving rows =
     let T : State = record S { references = record S.references { threads = with_row S.references.threads u f } } in
     let old = thread_of S u in
     let counts : (o : ObjNo) → count_of T o ≡ count_of S o = λ o.
@@ -149,15 +155,15 @@ sound-row-out script S u f effects outs keeps holds thread paid quiet leaves spe
           duties-threads S.references.threads (with_row S.references.threads u f) S.serving.servers
           S.serving.messages.accepted S.references.owed paid rows.references.duties;
       synchronization =
-          synchronization-left script S (length S.references.objects) (with_row S.references.threads u f) S.references.owed
-          (omega arith) leaves rows;
+          synchronization-left script S S.references.objects (with_row S.references.threads u f) S.references.owed
+          (λ k none. none) leaves rows;
       services = services-row S.references.threads u f S.services (λ row is. (thread row is (rows.references.threads.rows u.0 row is)).process) rows.services;
       spent = spent;
       serving = serving;
     })
-    (lives-quiet S T effects refl quiet.quiet
+    (lives-quiet S T effects (refl, refl, refl) quiet.quiet
     (λ o. let a = counts o in let b = quiet.pluses o in let c = quiet.quiet.minuses o in omega arith) (λ o. refl)
-    (λ o inside alive. let a = outs o inside alive in omega arith)
+    (λ o alive. let a = outs o alive in omega arith) sought
     (λ o h. let b = quiet.pluses o in absurd (omega arith)) quiet.found)
     (record { fits = quiet.fits; moves = λ g x. quiet.after g x ∙ sym (held g x) })
 
@@ -171,13 +177,14 @@ pub sound-row : (script : Script) (S : State) (u : ObjNo) (f : ThreadRow → Thr
     ⊎ IsPaidIn S.references.threads (with_row S.references.threads u f) k)
     → IsSilent S effects → LeavesSynchronization script S (with_row S.references.threads u f) S.references.owed
     → AreSpent S.references.objects S.references.handles (with_row S.references.threads u f)
-    → AreServingRows (length S.references.objects) (with_row S.references.threads u f) S.synchronization.locks
+    → AreServingRows S.references.objects (with_row S.references.threads u f) S.synchronization.locks
     (IsUntold S.synchronization.requests S.synchronization.logons) S.serving
     → AreRows script S → Sound script S (record S { references = record S.references { threads = with_row S.references.threads u f } }) effects
 sound-row script S u f effects seek keeps holds thread paid quiet leaves spent serving rows =
-    sound-row-out script S u f effects (λ o inside alive. let a = outs-same S (with_row S.references.threads u f)
-    (seeks-with_row S.references.threads u f seek) o in
-    omega arith) keeps holds thread paid quiet leaves spent serving rows
+    let same = seeks-with_row S.references.threads u f seek in
+    sound-row-out script S u f effects (λ o alive. let a = outs-same S (with_row S.references.threads u f) same o in omega arith)
+    (outs-found S (record S { references = record S.references { threads = with_row S.references.threads u f } }) same)
+    keeps holds thread paid quiet leaves spent serving rows
 
 -- a return comes before the use of anything, and isn't the last step of its instruction
 pub returning_before : (p : Option Part) → is_returning p ≡ true → is_before_use p ≡ true
@@ -189,17 +196,18 @@ returning_begun (Some Return) e = refl
 returning_begun _ e = absurd (cc)
 
 -- whoever comes back to what is gone was out on nothing that isn't
-missed_none : (S : State) (u o p : ObjNo) → MayMiss S u o → p.0 < length S.references.objects → gone S.references.objects p ≡ 0 → seeks p (thread_of S u) ≡ 0
-missed_none S u o p fits there alive = elim (cases_lt 0 (seeks p (thread_of S u))) as (λ _. seeks p (thread_of S u) ≡ 0) [
-  | inr none ↦ omega arith
-  | inl some ↦
-      let back = fits.0 in
-      let seek : seeks p (thread_of S u) ≡ same o p = ap (seeks p) back.is
-      ∙ if_is (is_returning back.row.part) (same (found_object back.row) p) back.returns
-      ∙ ap (λ (x : ObjNo). same x p) back.found in
-      let at : o ≡ p = same_is o p (omega arith) in
-      absurd (fits.1 (subst (λ (x : ObjNo). IsAlive (object_of S x)) (sym at) (not_gone_alive S.references.objects p there alive)))
-]
+missed_none : (S : State) (u o p : ObjNo) → MayMiss S u o → IsAlive (object_of S p) → seeks p (place_of (object_of S p)) (thread_of S u) ≡ 0
+missed_none S u o p fits alive = elim (cases_lt 0 (seeks p (place_of (object_of S p)) (thread_of S u))) as
+    (λ _. seeks p (place_of (object_of S p)) (thread_of S u) ≡ 0) [
+      | inr none ↦ omega arith
+      | inl some ↦
+          let back = fits.back in
+          let is = ap (seeks p (place_of (object_of S p))) back.is in
+          let own = seeks_is p (place_of (object_of S p)) back.row (omega arith) in
+          let at : o ≡ p = sym back.found ∙ own.2 in
+          absurd (fits.over (subst (λ (x : ObjNo). IsAlive (object_of S x)) (sym at) alive)
+          (ap (λ (x : ObjNo). place_of (object_of S x)) at ∙ sym own.1))
+    ]
 
 -- the row of a thread that isn't between a find and its return isn't at one
 pub is_back : (S : State) (u : ObjNo) (row : ThreadRow) → thread_of S u ≡ Some row → IsBack S u → is_returning row.part ≡ false
@@ -209,19 +217,46 @@ is_back S u row is back = sym (ap (λ (x : Option ThreadRow). is_returning (part
 pub one_row : (S : State) (u : ObjNo) (old row : ThreadRow) → thread_of S u ≡ Some old → thread_of S u ≡ Some row → old ≡ row
 one_row S u old row a b = cc
 
+-- an object that is there has its place; its number has 16 bits
+found_there : (S : State) (o p : ObjNo) (place : ℕ) → is_some (object_of S o) ≡ true → place_of (object_of S o) ≡ place
+    → record { 0 = o.0 % 65536 } ≡ p → o.0 < 65536 → HasPlace S p place
+found_there S o p place there at is small = by (object_of S o) refl
+  where
+    own : o ≡ p
+    own = same_object o p (let e : o.0 % 65536 ≡ p.0 = ap (λ (x : ObjNo). x.0) is in omega arith)
+
+    by : (x : Option ObjectRow) → object_of S o ≡ x → HasPlace S p place
+    by None none = let no : is_some (object_of S o) ≡ false = ap is_some none in absurd (cc)
+    by (Some row) some = record {
+      row = row;
+      is = subst (λ (y : ObjNo). object_of S y ≡ Some row) own some;
+      place_is = sym (ap place_of some) ∙ at;
+    }
+
 -- who finds an object is out on it then, and nobody less on another
 pub sound-find : (script : Script) (S : State) (t u o : ObjNo) → FitsMove script t (Find u o) S → AreRows script S
     → Sound script S (moved t (Find u o) S) (told (Find u o) S)
 sound-find script S t u o fits rows =
     let may = fits.0 in
-    let f = with_found o in
+    let f = with_found o (place_of (object_of S o)) in
     let threads = S.references.threads in
     let same_row = λ (row : ThreadRow) (is : thread_of S u ≡ Some row). one_row S u may.row row may.is is in
+    let before : (p : ObjNo) (place : ℕ) → seeks p place (thread_of S u) ≡ 0 = λ p place. ap (seeks p place) may.is
+    ∙ if_not (is_returning may.row.part && may.row.sought == place) (same (found_object may.row) p)
+    (ap (λ (b : Bool). b && may.row.sought == place) may.going) in
     sound-row-out script S u f (Seek o ∷ [])
-    (λ p inside alive. out-le S.mode.shared (total (seeks p) threads) (total (seeks p) (with_row threads u f))
-    (let a = total-with (seeks p) (option_map f) None threads u.0 refl in
-    let b : seeks p (thread_of S u) ≡ 0 = ap (seeks p) may.is
-    ∙ if_not (is_returning may.row.part) (same (found_object may.row) p) may.going in omega arith))
+    (λ p alive. let place = place_of (object_of S p) in
+    out-le S.mode.shared (total (seeks p place) threads) (total (seeks p place) (with_row threads u f))
+    (let a = total-with (seeks p place) (option_map f) None threads u.0 refl in let b = before p place in omega arith))
+    (λ p place some. elim (cases_lt 0 (seeks p place (option_map f (thread_of S u)))) as
+    (λ _. (0 < total (seeks p place) threads) ⊎ HasPlace S p place) [
+      | inl here ↦
+          let is = ap (λ (x : Option ThreadRow). seeks p place (option_map f x)) may.is in
+          let own = seeks_is p place (f may.row) (omega arith) in
+          inr (found_there S o p place may.object own.1 own.2 (let few = rows.references.sized.objects_few in
+          let inside = there_inside S.references.objects o.0 may.object in omega arith))
+      | inr nothing ↦ let a = total-with (seeks p place) (option_map f) None threads u.0 refl in let b = before p place in inl (omega arith)
+    ])
     (record { link = λ row. refl; uses = λ row. refl }) (λ row is. refl)
     (λ row is h. let at = same_row row is in record {
       thread = record {
@@ -249,7 +284,7 @@ sound-find script S t u o fits rows =
     (record {
       quiet = record { minuses = λ p. refl; deaths = λ p. refl; removals = λ p. refl };
       pluses = λ p. refl;
-      found = λ p h. subst (λ (y : ObjNo). y.0 < length S.references.objects) (same_is o p (omega arith)) may.object;
+      found = λ p h. subst (λ (y : ObjNo). is_some (object_of S y) ≡ true) (same_is o p (omega arith)) may.object;
       fits = (tt, tt);
       after = λ g x. refl;
     })
@@ -262,11 +297,10 @@ sound-find script S t u o fits rows =
     (λ row is. subst (λ (r : ThreadRow). is_spent r.stage ≡ false) (same_row row is) may.unspent)
     (λ row e. e) rows.references.spent)
     (record {
-      servers = servers-row script S u f (λ row. refl) rows;
+      servers = servers-row script S u f (λ row. refl) (λ row p e. e) rows;
       messages =
           messages-with_row (IsUntold S.synchronization.requests S.synchronization.logons) threads S.serving.servers
           S.serving.messages u f (λ row is called was live. was live)
-          (let a = fewer-with_row sending_bit threads u f (λ row is. omega arith) in let b = rows.serving.messages.few in omega arith)
           (fewer-with_row numbers_left threads u f
           (λ row is. let a = subst (λ (r : ThreadRow). begun r.part ≡ 0) (same_row row is) may.begins in omega arith))
           rows.serving.messages;
@@ -275,7 +309,7 @@ sound-find script S t u o fits rows =
 pub sound-write : (script : Script) (S : State) (t u : ObjNo) (x value : ℕ) → FitsMove script t (Write u x value) S
     → AreRows script S → Sound script S (moved t (Write u x value) S) (told (Write u x value) S)
 sound-write script S t u x value fits rows =
-    sound-row script S u (with_register x value) [] (λ row is o. refl)
+    sound-row script S u (with_register x value) [] (λ row is o place. refl)
     (record { link = λ row. refl; uses = λ row. refl }) (λ row is. refl)
     (λ row is h. record {
       thread = record {
@@ -295,11 +329,10 @@ sound-write script S t u x value fits rows =
     (synchronization-kept script S u (with_register x value) (λ row h. h) (λ row. refl) (λ row. refl) rows)
     (spent-kept S.references.objects S.references.handles S.references.threads u (with_register x value)
     (record { stage = λ row. refl; unused = λ row e. e; waits = λ row e. e; going = λ row e. e; link = λ row e. e })
-    rows.references.spent) (serving-kept script S u (with_register x value) (λ row. refl)
+    rows.references.spent) (serving-kept script S u (with_register x value) (λ row. refl) (λ row p e. e)
     (record {
       live = λ row live. live;
       waits = λ row live. refl;
-      sends = λ row. omega arith;
       left = λ row. omega arith;
     }) rows) rows
 
@@ -327,18 +360,17 @@ sound-keep script S t u number fits rows =
     (synchronization-kept script S u (with_kept number) (λ row h. h) (λ row. refl) (λ row. refl) rows)
     (spent-kept S.references.objects S.references.handles S.references.threads u (with_kept number)
     (record { stage = λ row. refl; unused = λ row e. e; waits = λ row e. e; going = λ row e. e; link = λ row e. e })
-    rows.references.spent) (serving-kept script S u (with_kept number) (λ row. refl)
+    rows.references.spent) (serving-kept script S u (with_kept number) (λ row. refl) (λ row p e. e)
     (record {
       live = λ row live. live;
       waits = λ row live. refl;
-      sends = λ row. omega arith;
       left = λ row. omega arith;
     }) rows) rows
 
 pub sound-write_message : (script : Script) (S : State) (t u : ObjNo) (y number : ℕ) → AreRows script S
     → Sound script S (moved t (WriteMessage u y number) S) (told (WriteMessage u y number) S)
 sound-write_message script S t u y number rows =
-    sound-row script S u (with_message y number) [] (λ row is o. refl)
+    sound-row script S u (with_message y number) [] (λ row is o place. refl)
     (record { link = λ row. refl; uses = λ row. refl }) (λ row is. refl)
     (λ row is h. record {
       thread = record {
@@ -358,32 +390,12 @@ sound-write_message script S t u y number rows =
     (synchronization-kept script S u (with_message y number) (λ row h. h) (λ row. refl) (λ row. refl) rows)
     (spent-kept S.references.objects S.references.handles S.references.threads u (with_message y number)
     (record { stage = λ row. refl; unused = λ row e. e; waits = λ row e. e; going = λ row e. e; link = λ row e. e })
-    rows.references.spent) (serving-kept script S u (with_message y number) (λ row. refl)
+    rows.references.spent) (serving-kept script S u (with_message y number) (λ row. refl) (λ row p e. e)
     (record {
       live = λ row live. live;
       waits = λ row live. refl;
-      sends = λ row. omega arith;
       left = λ row. omega arith;
     }) rows) rows
-
--- a thread that goes on to a step begins a sending at most
-pub begins-sending : (S : State) (u : ObjNo) (part : Part) (f : ThreadRow → ThreadRow)
-    → ((row : ThreadRow) → (f row).part ≡ Some part) → MaySend (Some part) S
-    → sessions_used S.references.threads S.serving.servers S.serving.messages.outstanding
-    ≤ sessions_there S.serving.servers
-    → sessions_used (with_row S.references.threads u f) S.serving.servers S.serving.messages.outstanding
-    ≤ sessions_there S.serving.servers
-begins-sending S u part f goes spare few = by part (λ row. ap is_sending (goes row)) spare
-  where
-    by : (p : Part) → ((row : ThreadRow) → is_sending (f row).part ≡ is_sending (Some p)) → MaySend (Some p) S
-        → sessions_used (with_row S.references.threads u f) S.serving.servers S.serving.messages.outstanding
-        ≤ sessions_there S.serving.servers
-    by Send sends may = let a = total-with sending_bit (option_map f) None S.references.threads u.0 refl in let b = one (thread_of S u) in omega arith
-      where
-        one : (x : Option ThreadRow) → sending_bit (option_map f x) ≤ 1
-        one None = omega arith
-        one (Some row) = let a = sends row in omega arith
-    by p sends may = let a = fewer-with_row sending_bit S.references.threads u f (λ row is. let b = sends row in omega arith) in omega arith
 
 pub sound-go_on : (script : Script) (S : State) (t u : ObjNo) (part : Part) → FitsMove script t (GoOn u part) S
     → AreRows script S → Sound script S (moved t (GoOn u part) S) (told (GoOn u part) S)
@@ -409,11 +421,10 @@ sound-go_on script S t u part fits rows =
     (synchronization-kept script S u f (λ row h. (h.0, h.1, h.2, fits.0.other)) (λ row. refl) (λ row. refl) rows)
     (spent-going S.references.objects S.references.handles S.references.threads u f fits.0.unspent
     (λ row e. e) rows.references.spent) (record {
-      servers = servers-row script S u f (λ row. refl) rows;
+      servers = servers-row script S u f (λ row. refl) (λ row p e. e) rows;
       messages =
           messages-with_row (IsUntold S.synchronization.requests S.synchronization.logons) S.references.threads
           S.serving.servers S.serving.messages u f (λ row is called was live. was live)
-          (begins-sending S u part f (λ row. refl) fits.1 rows.serving.messages.few)
           (fewer-with_row numbers_left S.references.threads u f (λ row is. let a = fits.0.ends row is in omega arith)) rows.serving.messages;
     }) rows
 
@@ -428,7 +439,7 @@ sound-waiting : (script : Script) (S : State) (u : ObjNo) (what : Waiting) → W
           { threads = with_row S.references.threads u (with_waiting what) };
     }) []
 sound-waiting script S u what nowhere uncalled nano spent live rows =
-    sound-row script S u (with_waiting what) [] (λ row is o. refl) (record { link = λ row. refl; uses = λ row. refl })
+    sound-row script S u (with_waiting what) [] (λ row is o place. refl) (record { link = λ row. refl; uses = λ row. refl })
     (λ row is. refl)
     (λ row is h. record {
       thread = record {
@@ -451,13 +462,11 @@ sound-waiting script S u what nowhere uncalled nano spent live rows =
           awaited-with_row S.references.threads u (with_waiting what) S.synchronization.requests S.synchronization.logons
           (λ row is live. live) (λ row o is was e. live row o is e) rows.synchronization.awaited;
     }) spent (record {
-      servers = servers-row script S u (with_waiting what) (λ row. refl) rows;
+      servers = servers-row script S u (with_waiting what) (λ row. refl) (λ row p e. e) rows;
       messages =
           messages-with_row (IsUntold S.synchronization.requests S.synchronization.logons) S.references.threads
           S.serving.servers S.serving.messages u (with_waiting what)
           (λ row is called was live. absurd (let none = uncalled row is live in omega arith))
-          (let a = fewer-with_row sending_bit S.references.threads u (with_waiting what) (λ row is. omega arith) in
-          let b = rows.serving.messages.few in omega arith)
           (fewer-with_row numbers_left S.references.threads u (with_waiting what) (λ row is. omega arith))
           rows.serving.messages;
     }) rows
@@ -485,7 +494,7 @@ pub sound-priority : (script : Script) (S : State) (t u : ObjNo) (priority : ℕ
     → FitsMove script t (SetPriority u priority) S → AreRows script S
     → Sound script S (moved t (SetPriority u priority) S) (told (SetPriority u priority) S)
 sound-priority script S t u priority fits rows =
-    sound-row script S u (with_priority priority) [] (λ row is o. refl)
+    sound-row script S u (with_priority priority) [] (λ row is o place. refl)
     (record { link = λ row. refl; uses = λ row. refl }) (λ row is. refl)
     (λ row is h. record {
       thread = record {
@@ -505,11 +514,10 @@ sound-priority script S t u priority fits rows =
     (synchronization-kept script S u (with_priority priority) (λ row h. h) (λ row. refl) (λ row. refl) rows)
     (spent-kept S.references.objects S.references.handles S.references.threads u (with_priority priority)
     (record { stage = λ row. refl; unused = λ row e. e; waits = λ row e. e; going = λ row e. e; link = λ row e. e })
-    rows.references.spent) (serving-kept script S u (with_priority priority) (λ row. refl)
+    rows.references.spent) (serving-kept script S u (with_priority priority) (λ row. refl) (λ row p e. e)
     (record {
       live = λ row live. live;
       waits = λ row live. refl;
-      sends = λ row. omega arith;
       left = λ row. omega arith;
     }) rows) rows
 
@@ -524,7 +532,7 @@ with_rest S new services = record S {
 pub sound-rest : (script : Script) (S : State) (new : Synchronization) (services : Services) (effects : List Effect)
     → IsSilent S effects
     → AreSynchronizationRows script (length S.references.threads)
-    (length S.references.objects) S.references.threads S.references.owed (with_rest S new services).synchronization
+    S.references.objects S.references.threads S.references.owed (with_rest S new services).synchronization
     → AreServiceRows S.references.threads services
     → AreMessages (IsUntold new.requests new.logons) S.references.threads S.serving.servers S.serving.messages
     → AreRows script S → Sound script S (with_rest S new services) effects
@@ -543,9 +551,9 @@ sound-rest script S new services effects quiet synchronization kept messages row
       spent = rows.references.spent;
       serving = record { servers = rows.serving.servers; messages = messages };
     })
-    (lives-quiet S T effects refl quiet.quiet
+    (lives-quiet S T effects (refl, refl, refl) quiet.quiet
     (λ o. let b = quiet.pluses o in let c = quiet.quiet.minuses o in omega arith) (λ o. refl)
-    (λ o inside alive. omega arith) (λ o h. let b = quiet.pluses o in absurd (omega arith)) quiet.found)
+    (λ o alive. omega arith) (outs-found S T (λ o place. refl)) (λ o h. let b = quiet.pluses o in absurd (omega arith)) quiet.found)
     (record { fits = quiet.fits; moves = quiet.after })
 
 -- what is told while the rows stay
@@ -565,11 +573,15 @@ pub sound-miss : (script : Script) (S : State) (t u o : ObjNo) → FitsMove scri
 sound-miss script S t u o fits rows =
     let f = with_missed in
     let threads = S.references.threads in
-    let back = fits.0.0 in
+    let back = fits.0.back in
+    let after : (p : ObjNo) (place : ℕ) → seeks p place (option_map f (thread_of S u)) ≡ 0 =
+    λ p place. ap (λ (x : Option ThreadRow). seeks p place (option_map f x)) back.is in
     sound-row-out script S u f (Missed o ∷ [])
-    (λ p inside alive. out-le S.mode.shared (total (seeks p) threads) (total (seeks p) (with_row threads u f))
-    (let a = total-with (seeks p) (option_map f) None threads u.0 refl in
-    let b = missed_none S u o p fits.0 inside alive in omega arith))
+    (λ p alive. let place = place_of (object_of S p) in
+    out-le S.mode.shared (total (seeks p place) threads) (total (seeks p place) (with_row threads u f))
+    (let a = total-with (seeks p place) (option_map f) None threads u.0 refl in
+    let b = missed_none S u o p fits.0 alive in omega arith))
+    (λ p place some. let a = total-with (seeks p place) (option_map f) None threads u.0 refl in let b = after p place in inl (omega arith))
     (record { link = λ row. refl; uses = λ row. refl }) (λ row is. refl)
     (λ row is h. record {
       thread = record {
@@ -600,11 +612,10 @@ sound-miss script S t u o fits rows =
     (record { stage = λ row. refl; unused = λ row e. e; waits = λ row e. e; going = λ row e. refl; link = λ row e. e })
     rows.references.spent)
     (record {
-      servers = servers-row script S u f (λ row. refl) rows;
+      servers = servers-row script S u f (λ row. refl) (λ row p e. e) rows;
       messages =
           messages-with_row (IsUntold S.synchronization.requests S.synchronization.logons) threads S.serving.servers
           S.serving.messages u f (λ row is called was live. was live)
-          (let a = fewer-with_row sending_bit threads u f (λ row is. omega arith) in let b = rows.serving.messages.few in omega arith)
           (fewer-with_row numbers_left threads u f
           (λ row is. let e = subst (λ (r : ThreadRow). is_returning r.part ≡ true)
           (one_row S u back.row row back.is is) back.returns in let a = returning_begun row.part e in omega arith))

@@ -127,7 +127,7 @@ each-sound script S t (m ∷ ms) fits few s =
     let w = weight-move script S t m fits.0 in
     sound-then script S T (perform t ms T) (told m S) (tell t ms T) one
     (each-sound script T t ms fits.1 (omega arith) (sane-after script S T t (told m S) s one))
-    (λ p. moves_remove script T t ms p fits.1)
+    (λ p. move_removes script S t m p fits.0) (λ p. moves_remove script T t ms p fits.1)
 
 -- what the moves of an action do
 pub sound-moves : (script : Script) (S : State) (t : ObjNo) (ms : List Move) → Fits script t ms S → Sane script t S

@@ -19,9 +19,9 @@ pub record Sound (script : Script) (S T : State) (effects : List Effect) : Type 
   pub long : length T.references.threads ≡ length S.references.threads
 
 pub sound-then : (script : Script) (S T U : State) (es fs : List Effect) → Sound script S T es → Sound script T U fs
-    → ((o : ObjNo) → removals fs o ≡ 0) → Sound script S U (es ++ fs)
-sound-then script S T U es fs h k none = record {
-  lives = lives-then S T U es fs h.lives k.lives none;
+    → ((o : ObjNo) → removals es o ≡ 0) → ((o : ObjNo) → removals fs o ≡ 0) → Sound script S U (es ++ fs)
+sound-then script S T U es fs h k before none = record {
+  lives = lives-then S T U es fs h.lives k.lives before none;
   holders = holders-then S T U es fs h.holders k.holders;
   rows = k.rows;
   long = k.long ∙ h.long;
@@ -29,7 +29,7 @@ sound-then script S T U es fs h k none = record {
 
 pub sound-none : (script : Script) (S : State) → AreRows script S → Sound script S S []
 sound-none script S rows = record {
-  lives = lives-none S S refl (λ o. refl) (λ o. refl) (λ o. refl);
+  lives = lives-none S S (refl, refl, refl) (λ o. refl) (λ o. refl) (λ o place. refl);
   holders = holders-none S S (λ g x. refl);
   rows = rows;
   long = refl;
@@ -46,8 +46,8 @@ pub record AreParts (script : Script) (S T : State) : Type 0 where
   pub duties : AreDuties T.references.threads T.serving.servers T.serving.messages.accepted T.references.owed
   pub spent : AreSpent T.references.objects T.references.handles T.references.threads
   pub synchronization : AreSynchronizationRows script (length S.references.threads)
-      (length T.references.objects) T.references.threads T.references.owed T.synchronization
-  pub serving : AreServingRows (length T.references.objects) T.references.threads T.synchronization.locks
+      T.references.objects T.references.threads T.references.owed T.synchronization
+  pub serving : AreServingRows T.references.objects T.references.threads T.synchronization.locks
       (IsUntold T.synchronization.requests T.synchronization.logons) T.serving
   pub services : AreServiceRows T.references.threads T.services
 
@@ -70,6 +70,7 @@ sound-of script S T effects rows parts lives holders =
             threads_few = let b = parts.threads_long in omega arith;
             objects_few = parts.objects_few;
           };
+          places = lives.places rows.references.places;
           tables = parts.tables;
           threads = parts.threads;
           duties = parts.duties;
@@ -77,7 +78,7 @@ sound-of script S T effects rows parts lives holders =
         };
         synchronization =
             subst (λ (n : ℕ). AreSynchronizationRows script n
-            (length T.references.objects) T.references.threads T.references.owed T.synchronization)
+            T.references.objects T.references.threads T.references.owed T.synchronization)
             (sym parts.threads_long) parts.synchronization;
         serving = parts.serving;
         services = parts.services;

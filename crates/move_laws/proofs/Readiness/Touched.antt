@@ -30,7 +30,8 @@ use Rattle.state_rows.specs.declared.thread.Waiting.TheVariants as waiting
 use Rattle.state_rows.specs.declared.thread.ThreadRow.{ThreadRow}
 use Rattle.state_rows.specs.declared.locks.Unlocked.TheVariants.{Freed, Level, NotOwner, Passed}
 use Rattle.machine.specs.declared.state.State.{State}
-use Rattle.machine.specs.Rows.{thread_of, first_of, first_owed, with_row}
+use Rattle.state_rows.specs.ObjectRows.{place_of}
+use Rattle.machine.specs.Rows.{object_of, thread_of, first_of, first_owed, with_row}
 use Rattle.machine.specs.Moves.{moved, threads_gain, threads_lose, threads_closed, next_object, with_use, unlinked, with_found, with_kept, with_missed, with_opened, with_message, with_part, with_register, with_waiting, with_priority, advanced}
 use Rattle.machine.specs.declared.death_move.DeathMove.TheVariants.{Note, Doom, Clean, Bury}
 use Rattle.machine.specs.DeathMoves.{death_row}
@@ -250,7 +251,7 @@ ready-untouched script S t (Lose h o) u threads joins none =
     (first_owed S u) S.references.threads h u)
 ready-untouched script S t (Find v o) u threads joins none =
     ap (ready_row S.mode.shared script S.synchronization.deferred S.synchronization.nano u (first_owed S u))
-    (row-other S.references.threads v (with_found o) u.0 (apart_of v u none))
+    (row-other S.references.threads v (with_found o (place_of (object_of S o))) u.0 (apart_of v u none))
 ready-untouched script S t (Open v o part) u threads joins none =
     ap (ready_row S.mode.shared script S.synchronization.deferred S.synchronization.nano u (first_owed S u))
     (row-other S.references.threads v (with_opened o part) u.0 (apart_of v u none))

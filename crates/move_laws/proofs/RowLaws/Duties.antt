@@ -14,7 +14,7 @@ use Rattle.machine.specs.References.{total, same}
 use Rattle.machine.specs.Holding.{same_pair}
 use Rattle.machine.specs.HeldIn.{owed_by}
 use Rattle.machine.specs.Out.{is_returning, part_of}
-use Rattle.machine.specs.WellFormed.{MayOwe, EachMayOwe, AreDuties, weight}
+use Rattle.machine.specs.WellFormed.{MayOwe, EachMayOwe, AreDuties, owed_sweeps, weight}
 use Rattle.move_laws.proofs.Holders.ThreadRows.{row-here, row-other}
 use Rattle.move_laws.proofs.RowLaws.Threads.{length-with_row, none-with_row}
 use Rattle.move_laws.proofs.Lists.Sets.{set_either}
@@ -49,19 +49,20 @@ paid-with_row threads t f keeps k = record {
 }
 
 may_owe-kept : (threads other : List (Option ThreadRow)) (r : ServerRows) (accepted k : ℕ) (h : Holder) (o : ObjNo)
-    → IsPaidIn threads other k → MayOwe threads r accepted k h o → MayOwe other r accepted k h o
-may_owe-kept threads other r accepted k (Temp u) o stays own = own
-may_owe-kept threads other r accepted k (Own u) o stays own = own
-may_owe-kept threads other r accepted k (Link x) o stays own = ((stays.none o.0 own.0.0, own.0.1), λ past. own.1 (let a = stays.long in omega arith))
-may_owe-kept threads other r accepted k (Message m) o stays own = own
-may_owe-kept threads other r accepted k Kernel o stays own = tt
-may_owe-kept threads other r accepted k _ o stays own = absurd own
+    (later : List Owed)
+    → IsPaidIn threads other k → MayOwe threads r accepted k h o later → MayOwe other r accepted k h o later
+may_owe-kept threads other r accepted k (Temp u) o later stays own = own
+may_owe-kept threads other r accepted k (Own u) o later stays own = own
+may_owe-kept threads other r accepted k (Link x) o later stays own = ((stays.none o.0 own.0.0, own.0.1), own.1)
+may_owe-kept threads other r accepted k (Message m) o later stays own = own
+may_owe-kept threads other r accepted k Kernel o later stays own = tt
+may_owe-kept threads other r accepted k _ o later stays own = absurd own
 
 each_may_owe-kept : (threads other : List (Option ThreadRow)) (r : ServerRows) (accepted k : ℕ) (what : List Owed)
     → IsPaidIn threads other k → EachMayOwe threads r accepted k what → EachMayOwe other r accepted k what
 each_may_owe-kept threads other r accepted k [] stays own = tt
 each_may_owe-kept threads other r accepted k (Close h o ∷ rest) stays own = (
-  may_owe-kept threads other r accepted k h o stays own.0,
+  may_owe-kept threads other r accepted k h o rest stays own.0,
   each_may_owe-kept threads other r accepted k rest stays own.1,
 )
 each_may_owe-kept threads other r accepted k (Sweep o ∷ rest) stays own = each_may_owe-kept threads other r accepted k rest stays own
@@ -85,11 +86,22 @@ duties-threads threads other r accepted owed stays h = record {
   ];
 }
 
+-- what may be owed with something behind it, with more behind that
+may_owe-more : (threads : List (Option ThreadRow)) (r : ServerRows) (accepted k : ℕ) (h : Holder) (o : ObjNo) (later more : List Owed)
+    → MayOwe threads r accepted k h o later → MayOwe threads r accepted k h o (later ++ more)
+may_owe-more threads r accepted k (Temp u) o later more own = own
+may_owe-more threads r accepted k (Own u) o later more own = own
+may_owe-more threads r accepted k (Link x) o later more own = (own.0, let a = total-append (owed_sweeps x) later more in let b = own.1 in omega arith)
+may_owe-more threads r accepted k (Message m) o later more own = own
+may_owe-more threads r accepted k Kernel o later more own = tt
+may_owe-more threads r accepted k _ o later more own = absurd own
+
 may_owe-append : (threads : List (Option ThreadRow)) (r : ServerRows) (accepted k : ℕ) (xs ys : List Owed)
     → EachMayOwe threads r accepted k xs → EachMayOwe threads r accepted k ys
     → EachMayOwe threads r accepted k (xs ++ ys)
 may_owe-append threads r accepted k [] ys h g = g
-may_owe-append threads r accepted k (Close j o ∷ rest) ys h g = (h.0, may_owe-append threads r accepted k rest ys h.1 g)
+may_owe-append threads r accepted k (Close j o ∷ rest) ys h g =
+    (may_owe-more threads r accepted k j o rest ys h.0, may_owe-append threads r accepted k rest ys h.1 g)
 may_owe-append threads r accepted k (Sweep o ∷ rest) ys h g = may_owe-append threads r accepted k rest ys h g
 
 -- what one thread owes changes
@@ -149,37 +161,45 @@ weight-owing owed t more =
       | inr e ↦ let a = ap (total weight) e in omega arith
     ]
 
-pair_apart : (threads : List (Option ThreadRow)) (r : ServerRows) (accepted k : ℕ) (h g : Holder) (o x : ObjNo)
-    → MayOwe threads r accepted k h o → ((y : ObjNo) → MayOwe threads r accepted k g y → ⊥) → same_pair h o g x ≡ 0
-pair_apart threads r accepted k (Temp u) (Temp v) o x own apart = if_not (u.0 == v.0) (same o x) (eqb_apart u.0 v.0 (λ e. apart o (sym e ∙ own)))
-pair_apart threads r accepted k (Own u) (Own v) o x own apart = if_not (u.0 == v.0) (same o x) (eqb_apart u.0 v.0 (λ e. apart o (sym e ∙ own)))
-pair_apart threads r accepted k (Link u) (Link v) o x own apart =
+pair_apart : (threads : List (Option ThreadRow)) (r : ServerRows) (accepted k : ℕ) (h g : Holder) (o x : ObjNo) (later : List Owed)
+    → MayOwe threads r accepted k h o later → ((y : ObjNo) → MayOwe threads r accepted k g y later → ⊥) → same_pair h o g x ≡ 0
+pair_apart threads r accepted k (Temp u) (Temp v) o x later own apart = if_not (u.0 == v.0) (same o x) (eqb_apart u.0 v.0 (λ e. apart o (sym e ∙ own)))
+pair_apart threads r accepted k (Own u) (Own v) o x later own apart = if_not (u.0 == v.0) (same o x) (eqb_apart u.0 v.0 (λ e. apart o (sym e ∙ own)))
+pair_apart threads r accepted k (Link u) (Link v) o x later own apart =
     if_not (u.0 == v.0) (same o x) (eqb_apart u.0 v.0
-    (λ e. apart o (subst (λ (y : ObjNo). MayOwe threads r accepted k (Link y) o) (same_object u v e) own)))
-pair_apart threads r accepted k (Message m) (Message n) o x own apart = if_not (m.0 == n.0) (same o x) (eqb_apart m.0 n.0 (λ e. apart o (omega arith)))
-pair_apart threads r accepted k (Temp u) _ o x own apart = refl
-pair_apart threads r accepted k (Own u) _ o x own apart = refl
-pair_apart threads r accepted k (Link u) _ o x own apart = refl
-pair_apart threads r accepted k (Message m) _ o x own apart = refl
-pair_apart threads r accepted k Kernel Kernel o x own apart = absurd (apart o own)
-pair_apart threads r accepted k Kernel _ o x own apart = refl
-pair_apart threads r accepted k _ g o x own apart = absurd own
+    (λ e. apart o (subst (λ (y : ObjNo). MayOwe threads r accepted k (Link y) o later) (same_object u v e) own)))
+pair_apart threads r accepted k (Message m) (Message n) o x later own apart =
+    if_not (m.0 == n.0) (same o x) (eqb_apart m.0 n.0 (λ e. apart o (omega arith)))
+pair_apart threads r accepted k (Temp u) _ o x later own apart = refl
+pair_apart threads r accepted k (Own u) _ o x later own apart = refl
+pair_apart threads r accepted k (Link u) _ o x later own apart = refl
+pair_apart threads r accepted k (Message m) _ o x later own apart = refl
+pair_apart threads r accepted k Kernel Kernel o x later own apart = absurd (apart o own)
+pair_apart threads r accepted k Kernel _ o x later own apart = refl
+pair_apart threads r accepted k _ g o x later own apart = absurd own
+
+-- what stands behind something in what is owed: each sweep of it is one of all
+abbrev pub IsBehind : List Owed → List Owed → Type 0
+IsBehind what later = (x : ObjNo) → total (owed_sweeps x) later ≤ total (owed_sweeps x) what
 
 not_owed : (threads : List (Option ThreadRow)) (r : ServerRows) (accepted k : ℕ) (what : List Owed) (g : Holder)
     (x : ObjNo)
-    → EachMayOwe threads r accepted k what → ((y : ObjNo) → MayOwe threads r accepted k g y → ⊥)
+    → EachMayOwe threads r accepted k what
+    → ((y : ObjNo) (later : List Owed) → IsBehind what later → MayOwe threads r accepted k g y later → ⊥)
     → total (owed_by g x) what ≡ 0
 not_owed threads r accepted k [] g x h apart = refl
 not_owed threads r accepted k (Close j o ∷ rest) g x h apart =
-    let a = pair_apart threads r accepted k j g o x h.0 apart in
-    let r = not_owed threads r accepted k rest g x h.1 apart in
+    let a = pair_apart threads r accepted k j g o x rest h.0 (λ y. apart y rest (λ z. omega arith)) in
+    let r = not_owed threads r accepted k rest g x h.1 (λ y later behind. apart y later (λ z. let b = behind z in omega arith)) in
     omega arith
-not_owed threads r accepted k (Sweep o ∷ rest) g x h apart = let r = not_owed threads r accepted k rest g x h apart in omega arith
+not_owed threads r accepted k (Sweep o ∷ rest) g x h apart =
+    let r = not_owed threads r accepted k rest g x h (λ y later behind. apart y later (λ z. let b = behind z in omega arith)) in omega arith
 
 -- no close is owed of a holder whose references nobody may owe
 pub none_owed : (threads : List (Option ThreadRow)) (r : ServerRows) (accepted : ℕ) (owed : List (List Owed))
     (g : Holder) (x : ObjNo)
-    → AreDuties threads r accepted owed → ((k : ℕ) (y : ObjNo) → MayOwe threads r accepted k g y → ⊥)
+    → AreDuties threads r accepted owed
+    → ((k : ℕ) (y : ObjNo) (later : List Owed) → IsBehind (get_or owed k []) later → MayOwe threads r accepted k g y later → ⊥)
     → total (total (owed_by g x)) owed ≡ 0
 none_owed threads r accepted owed g x h apart =
     let few : total (total (owed_by g x)) owed
@@ -190,12 +210,12 @@ none_owed threads r accepted owed g x h apart =
 -- no close is owed of a holder whose references only a thread may owe that owes none
 pub none_owed_by : (threads : List (Option ThreadRow)) (r : ServerRows) (accepted : ℕ) (owed : List (List Owed))
     (t : ObjNo) (g : Holder) (x : ObjNo)
-    → AreDuties threads r accepted owed → ((k : ℕ) (y : ObjNo) → MayOwe threads r accepted k g y → t.0 ≡ k)
+    → AreDuties threads r accepted owed → ((k : ℕ) (y : ObjNo) (later : List Owed) → MayOwe threads r accepted k g y later → t.0 ≡ k)
     → total (owed_by g x) (get_or owed t.0 []) ≡ 0 → total (total (owed_by g x)) owed ≡ 0
 none_owed_by threads r accepted owed t g x h only paid =
     let few : total (total (owed_by g x)) owed ≤ 0 * length owed = total_at_most (total (owed_by g x)) 0 owed [] (λ k inside.
     elim (cases_eq t.0 k) as (λ _. total (owed_by g x) (get_or owed k []) ≤ 0) [
       | inl at ↦ let e : total (owed_by g x) (get_or owed k []) ≡ 0 = ap (λ (n : ℕ). total (owed_by g x) (get_or owed n [])) (sym at) ∙ paid in omega arith
-      | inr apart ↦ let a = not_owed threads r accepted k (get_or owed k []) g x (h.own k) (λ y own. apart (only k y own)) in omega arith
+      | inr apart ↦ let a = not_owed threads r accepted k (get_or owed k []) g x (h.own k) (λ y later behind own. apart (only k y later own)) in omega arith
     ]) in
     omega arith

@@ -1,6 +1,6 @@
 -- How many messages are outstanding: at most one for each status of a thread, one for each thread, and one for each session.
-use Rattle.std.proofs.Common.{◌≡◌, inl, inr, ℕ, ◌+◌, ◌*◌, ◌<◌, ◌≤◌, Bool, true, false, List, [], ◌∷◌, length, get_or, arith, refl, sym, ap, ◌∙◌, Option, Some, None}
-use Rattle.std.specs.Prelude.{Contains, if◌then◌else◌, is_some}
+use Rattle.std.proofs.Common.{◌≡◌, inl, inr, ℕ, zero, suc, ◌+◌, ◌*◌, ◌<◌, ◌≤◌, Bool, true, false, List, [], ◌∷◌, length, get_or, arith, refl, sym, ap, ◌∙◌, Option, None}
+use Rattle.std.specs.Prelude.{◌==◌, Contains, if◌then◌else◌, is_some}
 use Rattle.std.proofs.lemmas.Bool.{cases_lt, eq-eqb}
 use Rattle.std.proofs.lemmas.List.{length_push}
 use Rattle.sym_base.specs.declared.limits.TheConstants.Limits.{OBJECTS}
@@ -18,12 +18,12 @@ use Rattle.state_rows.specs.declared.servers.SessionRow.{SessionRow}
 use Rattle.state_rows.specs.declared.thread.ThreadRow.{ThreadRow}
 use Rattle.machine.specs.FitsServers.{MayAccept}
 use Rattle.machine.specs.References.{total}
-use Rattle.machine.specs.Serving.{AreMessages, call_names, disconnect_bit, disconnect_bit_of, is_called, is_sent, sent_names, session_bit, thread_bit, times_called, times_sent}
+use Rattle.machine.specs.Serving.{AreMessages, call_names, disconnect_bit_of, disconnects_of, is_called, is_sent, sent_names, thread_bit, times_called, times_sent}
 use Rattle.machine.specs.WellFormed.{AreRows, IsUntold}
 use Rattle.machine.specs.declared.state.State.{State}
 use Rattle.move_laws.proofs.Lists.Contents.{contains_total, total_some}
 use Rattle.move_laws.proofs.Lists.Partition.{below, below_at_least, below_at_most, below_rows, parted}
-use Rattle.move_laws.proofs.Lists.Totals.{total_at_most}
+use Rattle.move_laws.proofs.References.Same.{if_is}
 use Rattle.move_laws.proofs.RowLaws.Locks.{thread_inside}
 use Rattle.move_laws.proofs.RowLaws.Messages.{called_is, messages-accepted, sent_is}
 
@@ -37,6 +37,9 @@ abbrev sync_bit_of : Way → ℕ
 sync_bit_of (Async s) = 0
 sync_bit_of Sync = 1
 sync_bit_of Disconnect = 0
+
+abbrev disconnect_bit : Message → ℕ
+disconnect_bit message = disconnect_bit_of message.row.way
 
 abbrev async_bit : Message → ℕ
 async_bit message = async_bit_of message.row.way
@@ -56,9 +59,11 @@ each_one (x ∷ xs) = let a = one_bit x.row.way in let b = each_one xs in omega 
 abbrev numbered : ℕ → ObjNo
 numbered k = record { 0 = k }
 
-session_bit_le : (row : Option SessionRow) → session_bit row ≤ 1
-session_bit_le None = omega arith
-session_bit_le (Some row) = omega arith
+-- the number of a session is one of the list's
+session_inside : (sessions : List (Option SessionRow)) (k : ℕ) → is_some (get_or sessions k None) ≡ true → k < length sessions
+session_inside [] k there = absurd (cc)
+session_inside (x ∷ xs) zero there = omega arith
+session_inside (x ∷ xs) (suc k) there = let r = session_inside xs k there in omega arith
 
 module _ (A : ObjNo → ℕ → Type 0) (below16 : (u : ObjNo) (s : ℕ) → A u s → s < 16) (threads : List (Option ThreadRow))
     (servers : ServerRows) (r : MessageRows) (h : AreMessages A threads servers r) where
@@ -128,6 +133,20 @@ module _ (A : ObjNo → ℕ → Type 0) (below16 : (u : ObjNo) (s : ℕ) → A u
   call_counted message (Async s) is there = omega arith
   call_counted message Disconnect is there = omega arith
 
+  -- a message that disconnects is one of those of its session
+  disconnect_counted : (n : ℕ) (message : Message) → message.row.session.0 < n → disconnect_bit message ≤ below n (λ k. disconnects_of (numbered k) message)
+  disconnect_counted n message inside =
+      let session = message.row.session in
+      let one = if_is (session.0 == session.0) (disconnect_bit message) (eq-eqb session.0 session.0 refl) in
+      let b = below_at_least n (λ k. disconnects_of (numbered k) message) session.0 inside in omega arith
+
+  -- and each session has one at most
+  disconnects_few : (n : ℕ) → length servers.sessions ≡ n → total disconnect_bit r.outstanding ≤ n
+  disconnects_few n sized =
+      let a = parted disconnect_bit (λ k message. disconnects_of (numbered k) message) n r.outstanding
+      (λ x there. disconnect_counted n x (let a = session_inside servers.sessions x.row.session.0 (h.sessions x there) in omega arith)) in
+      let b = below_at_most n (λ k. total (disconnects_of (numbered k)) r.outstanding) 1 (λ k. let a = h.closed (numbered k) in omega arith) in omega arith
+
   -- all three kinds together
   pub messages_few : length servers.sessions ≡ OBJECTS → length r.outstanding ≤ 5184
   messages_few sized =
@@ -138,8 +157,7 @@ module _ (A : ObjNo → ℕ → Type 0) (below16 : (u : ObjNo) (s : ℕ) → A u
       let c = parted sync_bit (λ k message. call_names (numbered k) message) (length threads) r.outstanding (λ x there. call_counted x x.row.way refl there) in
       let d = below_rows 1 thread_bit (λ k. times_called r.outstanding (numbered k)) threads None
       (λ k. let e = client_bit k (call_names (numbered k)) (h.called (numbered k)) (called_own k) in omega arith) in
-      let few = h.few in
-      let g = total_at_most session_bit 1 servers.sessions None (λ i inside. session_bit_le (get_or servers.sessions i None)) in omega arith
+      let e = disconnects_few OBJECTS sized in omega arith
 
 -- fewer messages than that are outstanding where one more may be accepted
 pub room_for_message : (script : Script) (S : State) (slots : Slots) (row : MsgRow) → MayAccept S row → AreRows script S

@@ -1,6 +1,6 @@
 -- Moves in the rows of mutexes and semaphores keep them, where they fit.
 use Rattle.std.proofs.Common.{◌≡◌, ◌≢◌, ◌⊎◌, inl, inr, ℕ, zero, suc, ◌+◌, ◌-◌, ◌<◌, ◌≤◌, List, [], ◌∷◌, ◌++◌, length, map, get_or, set, arith, refl, sym, ap, subst, ◌∙◌, Option, Some, None, Bool, true, false, ltb-true}
-use Rattle.std.specs.Prelude.{◌==◌, not, if◌then◌else◌, nat_lt, pos}
+use Rattle.std.specs.Prelude.{◌==◌, is_some, not, if◌then◌else◌, nat_lt, pos}
 use Rattle.std.proofs.lemmas.Bool.{and_parts, cases_Bool, cases_eq, eqb-true}
 use Rattle.std.proofs.lemmas.List.{get_or-set_other}
 use Rattle.sym_base.specs.declared.limits.TheConstants.Limits.{OBJECTS}
@@ -13,23 +13,24 @@ use Rattle.state_rows.specs.declared.locks.Owner.{Owner}
 use Rattle.state_rows.specs.declared.locks.Signalled.{Signalled}
 use Rattle.state_rows.specs.declared.locks.Signalled.TheVariants.{Counted, Woke, Overflow}
 use Rattle.state_rows.specs.declared.locks.Unlocked.TheVariants.{Level, Freed, Passed, NotOwner}
+use Rattle.state_rows.specs.declared.object.ObjectRow.{ObjectRow}
 use Rattle.state_rows.specs.declared.thread.ThreadRow.{ThreadRow}
-use Rattle.state_rows.specs.LockChanges.{after_lock, after_new_row, after_remove, after_signal, after_unlock, after_wait, count_after_signal, once, owner_after_lock, owner_after_unlock, waiters_after_signal}
+use Rattle.state_rows.specs.LockChanges.{after_lock, after_new_row, after_remove, after_signal, after_sweep, after_unlock, after_wait, count_after_signal, once, owner_after_lock, owner_after_unlock, waiters_after_signal}
 use Rattle.state_rows.specs.Locks.{count_at, is_among, owner_at, waiters_at, without}
 use Rattle.state_rows.proofs.SoundChanges.{set_item}
 use Rattle.machine.specs.HeldIn.{owed_by}
 use Rattle.machine.specs.LockMoves.{holding, not_holding}
 use Rattle.machine.specs.References.{same, total}
 use Rattle.machine.specs.Rows.{owing}
-use Rattle.machine.specs.WellFormed.{AreLocks, times_held}
+use Rattle.machine.specs.WellFormed.{AreLocks, IsOwnerOf, times_held}
 use Rattle.move_laws.proofs.Holders.HoldersMove.{pair_self}
-use Rattle.move_laws.proofs.Lists.Sets.{set_either}
+use Rattle.move_laws.proofs.Lists.Sets.{set_default, set_either}
 use Rattle.move_laws.proofs.Lists.Totals.{total-append}
 use Rattle.move_laws.proofs.Lives.LivesMove.{zero_or}
 use Rattle.move_laws.proofs.References.Mutexes.{held-holding, held-not_holding}
 use Rattle.move_laws.proofs.References.Same.{eqb_apart, if_not, if_zero, same_object, same_other}
 use Rattle.move_laws.proofs.Readiness.ReadyLists.{listed-filter, unlisted-push}
-use Rattle.move_laws.proofs.RowLaws.LockChanges.{AreLockParts, LockParts, MayStand, locks-counted, locks-passed}
+use Rattle.move_laws.proofs.RowLaws.LockChanges.{AreLockParts, LockParts, MayStand, apart_there, locks-counted, locks-passed}
 use Rattle.std.proofs.lemmas.List.{length-map, length-set}
 
 -- whoever stands among waiters with one more behind them stood there, or is the one
@@ -74,7 +75,7 @@ left_at [] t k = refl
 left_at (queue ∷ rest) t zero = refl
 left_at (queue ∷ rest) t (suc k) = left_at rest t k
 
-pub locks-leave : (objects : ℕ) (threads : List (Option ThreadRow)) (p : LockParts) (u : ObjNo)
+pub locks-leave : (objects : List (Option ObjectRow)) (threads : List (Option ThreadRow)) (p : LockParts) (u : ObjNo)
     → AreLockParts objects threads p → AreLocks objects threads p.mutexes p.owed (after_remove p.rows u)
 locks-leave objects threads p u h =
     let stood : (t o : ObjNo) → is_among t (waiters_at (after_remove p.rows u) o) ≡ true
@@ -93,10 +94,12 @@ locks-leave objects threads p u h =
       paid = λ t o among. h.paid t o (stood t o among);
       owners_made = h.owners_made;
       waiters_made = λ o past. left_at p.rows.waiters u o.0 ∙ ap (without u) (h.waiters_made o past);
+      counts_made = h.counts_made;
     }
 
-module _ (objects : ℕ) (threads : List (Option ThreadRow)) (p : LockParts) (h : AreLockParts objects threads p)
-    (few : objects ≤ OBJECTS) (o : ObjNo) (made : o.0 < objects) where
+module _ (objects : List (Option ObjectRow)) (threads : List (Option ThreadRow)) (p : LockParts)
+    (h : AreLockParts objects threads p) (few : length objects ≤ OBJECTS) (o : ObjNo)
+    (made : is_some (get_or objects o.0 None) ≡ true) where
   -- whoever stands among the waiters
   stands : (t : ObjNo) → is_among t (waiters_at p.rows o) ≡ true → MayStand threads p.owed t o
   stands t among = record { waits = h.waiters t o among; paid = h.paid t o among }
@@ -191,6 +194,7 @@ module _ (objects : ℕ) (threads : List (Option ThreadRow)) (p : LockParts) (h 
     paid = h.paid;
     owners_made = h.owners_made;
     waiters_made = h.waiters_made;
+    counts_made = λ x none. get_or-set_other p.rows.counts o.0 x.0 count 0 (apart_there objects o x made none) ∙ h.counts_made x none;
   }
 
   -- a count changes
@@ -307,3 +311,46 @@ module _ (objects : ℕ) (threads : List (Option ThreadRow)) (p : LockParts) (h 
         (let long = length-set p.mutexes t.0 (without o (get_or p.mutexes t.0 [])) in omega arith)
         (length-set p.mutexes t.0 _) given_none given_others owes_others
         (λ u among. stands_then u (among-without (waiters_at p.rows o) w u among))
+
+-- a number that no object has any more, to which nothing referred
+pub locks-swept : (objects : List (Option ObjectRow)) (threads : List (Option ThreadRow)) (p : LockParts) (o : ObjNo)
+    → ((t : ObjNo) → times_held p.mutexes t o ≡ 0) → AreLockParts objects threads p
+    → AreLocks (set objects o.0 None) threads p.mutexes p.owed (after_sweep p.rows o)
+locks-swept objects threads p o none h = record {
+  owners_sized = length-set p.rows.owners o.0 nobody ∙ h.owners_sized;
+  counts_sized = length-set p.rows.counts o.0 0 ∙ h.counts_sized;
+  waiters_sized = length-set p.rows.waiters o.0 [] ∙ h.waiters_sized;
+  mutexes_sized = h.mutexes_sized;
+  counts = λ x. set_item (λ (n : ℕ). n ≤ 2147483647) p.rows.counts o.0 x.0 0 0 (λ _. omega arith) (h.counts x);
+  owned = λ x owner. set_item (λ (y : Option Owner). y ≡ Some owner → times_held p.mutexes owner.thread x ≡ 1) p.rows.owners o.0 x.0 nobody None
+      (λ at is. absurd (cc)) (h.owned x owner);
+  held = λ t x some. elim (cases_eq x.0 o.0) as (λ _. IsOwnerOf (after_sweep p.rows o) t x) [
+    | inl at ↦ let zero = subst (λ (y : ObjNo). times_held p.mutexes t y ≡ 0) (sym (same_object x o at)) (none t) in absurd (omega arith)
+    | inr apart ↦ let was = h.held t x some in
+        record { owner = was.owner; is = get_or-set_other p.rows.owners o.0 x.0 nobody None apart ∙ was.is; thread = was.thread }
+  ];
+  waiters = λ t x among. h.waiters t x (stood t x among);
+  paid = λ t x among. h.paid t x (stood t x among);
+  owners_made = λ x gone. elim (cases_eq x.0 o.0) as (λ _. owner_at (after_sweep p.rows o) x ≡ None) [
+    | inl at ↦ set_default p.rows.owners o.0 x.0 None at
+    | inr apart ↦ get_or-set_other p.rows.owners o.0 x.0 nobody None apart
+        ∙ h.owners_made x (sym (get_or-set_other objects o.0 x.0 None None apart) ∙ gone)
+  ];
+  waiters_made = λ x gone. elim (cases_eq x.0 o.0) as (λ _. waiters_at (after_sweep p.rows o) x ≡ []) [
+    | inl at ↦ set_default p.rows.waiters o.0 x.0 [] at
+    | inr apart ↦ get_or-set_other p.rows.waiters o.0 x.0 [] [] apart
+        ∙ h.waiters_made x (sym (get_or-set_other objects o.0 x.0 None None apart) ∙ gone)
+  ];
+  counts_made = λ x gone. elim (cases_eq x.0 o.0) as (λ _. count_at (after_sweep p.rows o) x ≡ 0) [
+    | inl at ↦ set_default p.rows.counts o.0 x.0 0 at
+    | inr apart ↦ get_or-set_other p.rows.counts o.0 x.0 0 0 apart
+        ∙ h.counts_made x (sym (get_or-set_other objects o.0 x.0 None None apart) ∙ gone)
+  ];
+}
+  where
+    nobody : Option Owner
+    nobody = None
+
+    stood : (t x : ObjNo) → is_among t (waiters_at (after_sweep p.rows o) x) ≡ true → is_among t (waiters_at p.rows x) ≡ true
+    stood t x = set_item (λ (queue : List ObjNo). is_among t queue ≡ true → is_among t (waiters_at p.rows x) ≡ true) p.rows.waiters o.0 x.0 [] []
+        (λ at among. absurd (cc)) (λ among. among)

@@ -7,6 +7,7 @@ use Rattle.sym_base.specs.declared.number.ObjNo.{ObjNo}
 use Rattle.entry_log.specs.declared.effect.Holder.TheVariants.{Own}
 use Rattle.state_rows.specs.declared.duty.Owed.{Owed}
 use Rattle.state_rows.specs.declared.locks.LockRows.{LockRows}
+use Rattle.state_rows.specs.declared.object.ObjectRow.{ObjectRow}
 use Rattle.state_rows.specs.declared.thread.ThreadRow.{ThreadRow}
 use Rattle.state_rows.specs.declared.thread.Waiting.TheVariants as waiting
 use Rattle.state_rows.specs.Locks.{is_among, waiters_at}
@@ -26,9 +27,13 @@ pub record LeavesLocks (threads other : List (Option ThreadRow)) (owed duties : 
   pub waits : (t o : ObjNo) → is_among t (waiters_at r o) ≡ true → Awaits threads t o → Awaits other t o
   pub owes : (t o : ObjNo) → total (owed_by (Own t) o) (get_or owed t.0 []) ≡ 0 → total (owed_by (Own t) o) (get_or duties t.0 []) ≡ 0
 
-pub locks-left : (objects count : ℕ) (threads other : List (Option ThreadRow)) (mutexes : List (List ObjNo))
+-- objects of which none went
+abbrev pub HasThose : List (Option ObjectRow) → List (Option ObjectRow) → Type 0
+HasThose objects more = (k : ℕ) → get_or more k None ≡ None → get_or objects k None ≡ None
+
+pub locks-left : (objects count : List (Option ObjectRow)) (threads other : List (Option ThreadRow)) (mutexes : List (List ObjNo))
     (owed duties : List (List Owed)) (r : LockRows)
-    → objects ≤ count → LeavesLocks threads other owed duties r → AreLocks objects threads mutexes owed r
+    → HasThose objects count → LeavesLocks threads other owed duties r → AreLocks objects threads mutexes owed r
     → AreLocks count other mutexes duties r
 locks-left objects count threads other mutexes owed duties r more leaves h = record {
   owners_sized = h.owners_sized;
@@ -40,8 +45,9 @@ locks-left objects count threads other mutexes owed duties r more leaves h = rec
   held = h.held;
   waiters = λ t o among. leaves.waits t o among (h.waiters t o among);
   paid = λ t o among. leaves.owes t o (h.paid t o among);
-  owners_made = λ o past. h.owners_made o (omega arith);
-  waiters_made = λ o past. h.waiters_made o (omega arith);
+  owners_made = λ o none. h.owners_made o (more o.0 none);
+  waiters_made = λ o none. h.waiters_made o (more o.0 none);
+  counts_made = λ o none. h.counts_made o (more o.0 none);
 }
 
 -- whoever waits for an object does so still where a row changes but for what its thread waits for

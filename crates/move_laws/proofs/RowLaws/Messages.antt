@@ -1,7 +1,7 @@
 -- The rows of messages, where one is accepted, taken or finished.
 use Rattle.std.proofs.Common.{◌≡◌, inl, inr, ℕ, ◌+◌, ◌<◌, ◌≤◌, Bool, true, false, List, [], ◌∷◌, map, get_or, arith, refl, sym, subst, ap, ◌∙◌, Option, Some, None}
 use Rattle.std.specs.Prelude.{◌==◌, if◌then◌else◌, is_some, not}
-use Rattle.std.proofs.lemmas.Bool.{and_parts, cases_lt, eqb-true}
+use Rattle.std.proofs.lemmas.Bool.{and_parts, cases_eq, cases_lt, eqb-true}
 use Rattle.std.proofs.lemmas.List.Elements.{Contains-push_cases}
 use Rattle.sym_base.specs.declared.kind.Slots.{Slots}
 use Rattle.sym_base.specs.declared.number.MsgNo.{MsgNo}
@@ -17,15 +17,15 @@ use Rattle.state_rows.specs.declared.messages.Way.TheVariants.{Async, Sync, Disc
 use Rattle.state_rows.specs.declared.servers.ServerRows.{ServerRows}
 use Rattle.state_rows.specs.declared.thread.ThreadRow.{ThreadRow}
 use Rattle.state_rows.specs.declared.thread.Waiting.TheVariants as waiting
-use Rattle.machine.specs.FitsServers.{FitsWay, MayAccept}
+use Rattle.machine.specs.FitsServers.{FitsWay, IsClosed, MayAccept}
 use Rattle.machine.specs.References.{total}
 use Rattle.machine.specs.Rows.{thread_of}
-use Rattle.machine.specs.Serving.{AreMessages, call_names, disconnect_bit, disconnect_bit_of, is_called, is_sent, sent_names, sessions_there, sessions_used, times_called, times_sent}
+use Rattle.machine.specs.Serving.{AreMessages, call_names, disconnect_bit_of, disconnects_of, is_called, is_sent, sent_names, times_called, times_closed, times_sent}
 use Rattle.machine.specs.WellFormed.{IsUntold}
 use Rattle.machine.specs.declared.state.State.{State}
 use Rattle.move_laws.proofs.Lists.Contents.{contains_filter, contains_map, total-map}
 use Rattle.move_laws.proofs.Lists.Totals.{total-append}
-use Rattle.move_laws.proofs.References.Same.{if_le, same_object}
+use Rattle.move_laws.proofs.References.Same.{eqb_apart, if_le, if_not, if_zero, same_object}
 use Rattle.move_laws.proofs.RowLaws.Logons.{total-filter}
 use Rattle.move_laws.proofs.RowLaws.Rising.{edited-value, rising-filter, rising-map, rising-push}
 
@@ -49,15 +49,19 @@ called_is u client Sync some = by (client.0 == u.0) refl some
 called_is u client (Async status) some = absurd (omega arith)
 called_is u client Disconnect some = absurd (omega arith)
 
--- a message that disconnects a session comes while one may be
-room_for : (S : State) (u : ObjNo) (way : Way) → FitsWay u way S
-    → sessions_used S.references.threads S.serving.servers S.serving.messages.outstanding
-    ≤ sessions_there S.serving.servers
-    → sessions_used S.references.threads S.serving.servers S.serving.messages.outstanding + disconnect_bit_of way
-    ≤ sessions_there S.serving.servers
-room_for S u (Async s) fits few = omega arith
-room_for S u Sync fits few = omega arith
-room_for S u Disconnect fits few = omega arith
+-- a message that disconnects a session comes once that is closed
+room_for : (S : State) (u session : ObjNo) (way : Way) → FitsWay u session way S → (s : ObjNo)
+    → times_closed S.serving.servers S.serving.messages.outstanding s ≤ 1
+    → times_closed S.serving.servers S.serving.messages.outstanding s
+    + (if session.0 == s.0 then disconnect_bit_of way else 0) ≤ 1
+room_for S u session (Async status) fits s few = let a = if_zero (session.0 == s.0) 0 refl in omega arith
+room_for S u session Sync fits s few = let a = if_zero (session.0 == s.0) 0 refl in omega arith
+room_for S u session Disconnect fits s few =
+    elim (cases_eq session.0 s.0) as (λ _. times_closed S.serving.servers S.serving.messages.outstanding s
+    + (if session.0 == s.0 then 1 else 0) ≤ 1) [
+      | inl at ↦ let closed = subst (IsClosed S) (same_object session s at) fits in let a = if_le (session.0 == s.0) 1 in omega arith
+      | inr apart ↦ let a = if_not (session.0 == s.0) 1 (eqb_apart session.0 s.0 apart) in omega arith
+    ]
 
 abbrev accepted_row : State → Slots → MsgRow → Message
 accepted_row S slots row = record { number = next_number S.serving.messages; slots = slots; row = row }
@@ -109,7 +113,9 @@ messages-accepted S slots row may h = record {
         | inl one ↦ (fits_called u one).1 thread is
         | inr no_name ↦ h.replies u thread (omega arith) is live
       ];
-  few = let a = total-append disconnect_bit S.serving.messages.outstanding (new ∷ []) in let b = room_for S row.client row.way may.way h.few in omega arith;
+  closed = λ s.
+      let a = total-append (disconnects_of s) S.serving.messages.outstanding (new ∷ []) in
+      let b = room_for S row.client row.session row.way may.way s (h.closed s) in omega arith;
   threads_few = h.threads_few;
   numbered = let a = may.number in omega arith;
 }
@@ -129,12 +135,12 @@ messages-accepted S slots row may h = record {
         → IsUntold S.synchronization.requests S.synchronization.logons u s
         × (times_sent S.serving.messages.outstanding u s ≡ 0)
     fits_sent u s one = let own = sent_is u s row.client row.way one in
-        subst (λ (v : ObjNo). FitsWay v (Async s) S) own.0 (subst (λ (way : Way). FitsWay row.client way S) own.1 may.way)
+        subst (λ (v : ObjNo). FitsWay v row.session (Async s) S) own.0 (subst (λ (way : Way). FitsWay row.client row.session way S) own.1 may.way)
 
     fits_called : (u : ObjNo) → 0 < call_names u new → (times_called S.serving.messages.outstanding u ≡ 0)
         × ((thread : ThreadRow) → thread_of S u ≡ Some thread → thread.waiting ≡ waiting.Reply)
     fits_called u one = let own = called_is u row.client row.way one in
-        subst (λ (v : ObjNo). FitsWay v Sync S) own.0 (subst (λ (way : Way). FitsWay row.client way S) own.1 may.way)
+        subst (λ (v : ObjNo). FitsWay v row.session Sync S) own.0 (subst (λ (way : Way). FitsWay row.client row.session way S) own.1 may.way)
 
 -- a message changes, but for its session, its client and its way
 module _ (A : ObjNo → ℕ → Type 0) (threads : List (Option ThreadRow)) (servers : ServerRows) (r : MessageRows)
@@ -169,7 +175,11 @@ module _ (A : ObjNo → ℕ → Type 0) (threads : List (Option ThreadRow)) (ser
     awaited = λ u s some. let a = sent u s in h.awaited u s (omega arith);
     called = λ u. let a = called u in let b = h.called u in omega arith;
     replies = λ u row some is live. let a = called u in h.replies u row (omega arith) is live;
-    few = let a = edited-total disconnect_bit (λ x. ap disconnect_bit_of (way x.row)) in let b = h.few in omega arith;
+    closed = λ s.
+        let a = edited-total (disconnects_of s)
+        (λ x. ap (λ (y : ObjNo). if y.0 == s.0 then disconnect_bit_of (change x.row).way else 0) (session x.row)
+        ∙ ap (λ (w : Way). if x.row.session.0 == s.0 then disconnect_bit_of w else 0) (way x.row)) in
+        let b = h.closed s in omega arith;
     threads_few = h.threads_few;
     numbered = h.numbered;
   }
@@ -207,7 +217,7 @@ messages-finished A threads servers r m h = record {
   awaited = λ u s some. let a = total-filter (sent_names u s) others r.outstanding in h.awaited u s (omega arith);
   called = λ u. let a = total-filter (call_names u) others r.outstanding in let b = h.called u in omega arith;
   replies = λ u row some is live. let a = total-filter (call_names u) others r.outstanding in h.replies u row (omega arith) is live;
-  few = let a = total-filter disconnect_bit others r.outstanding in let b = h.few in omega arith;
+  closed = λ s. let a = total-filter (disconnects_of s) others r.outstanding in let b = h.closed s in omega arith;
   threads_few = h.threads_few;
   numbered = h.numbered;
 }

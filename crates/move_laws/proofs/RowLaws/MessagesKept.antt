@@ -17,22 +17,22 @@ use Rattle.state_rows.specs.declared.thread.Waiting.TheVariants as waiting
 use Rattle.state_rows.proofs.SoundChanges.{set_item}
 use Rattle.machine.specs.References.{total, message_names}
 use Rattle.machine.specs.Rows.{with_row}
-use Rattle.machine.specs.Serving.{AreMessages, begun, is_sending, numbers_left, numbers_used, sending_bit, sessions_there, sessions_used, thread_bit, times_called, times_sent}
+use Rattle.machine.specs.Serving.{AreMessages, begun, numbers_left, numbers_used, thread_bit, times_called, times_closed, times_sent}
 use Rattle.move_laws.proofs.Lists.Totals.{total-set, total-with, total_at_least}
 use Rattle.move_laws.proofs.References.Counts.{is_some-with_row}
 use Rattle.move_laws.proofs.References.Same.{same_object, same_self}
 use Rattle.move_laws.proofs.RowLaws.Threads.{was_row}
 
--- other rows of threads: each client is there, whoever waits for an end waits still, and no more sessions are used, nor more threads there
+-- other rows of threads: each client is there, whoever waits for an end waits still, and no more threads are there
 pub messages-threads : (A : ObjNo → ℕ → Type 0) (threads other : List (Option ThreadRow)) (servers : ServerRows)
     (r : MessageRows)
     → ((message : Message) → Contains r.outstanding message → is_some (get_or threads message.row.client.0 None) ≡ true
     → is_some (get_or other message.row.client.0 None) ≡ true)
     → ((u : ObjNo) (row : ThreadRow) → 0 < times_called r.outstanding u → get_or other u.0 None ≡ Some row → row.stage
-    ≡ Live → row.waiting ≡ waiting.Reply) → sessions_used other servers r.outstanding ≤ sessions_there servers
+    ≡ Live → row.waiting ≡ waiting.Reply)
     → total thread_bit other ≤ THREADS → total numbers_left other ≤ total numbers_left threads
     → AreMessages A threads servers r → AreMessages A other servers r
-messages-threads A threads other servers r clients replies few threads_few left h = record {
+messages-threads A threads other servers r clients replies threads_few left h = record {
   objects = h.objects;
   rising = h.rising;
   given = h.given;
@@ -42,7 +42,7 @@ messages-threads A threads other servers r clients replies few threads_few left 
   awaited = h.awaited;
   called = h.called;
   replies = replies;
-  few = few;
+  closed = h.closed;
   threads_few = threads_few;
   numbered = let a = h.numbered in omega arith;
 }
@@ -56,15 +56,14 @@ pub messages-with_row : (A : ObjNo → ℕ → Type 0) (threads : List (Option T
     (r : MessageRows) (u : ObjNo) (f : ThreadRow → ThreadRow)
     → ((row : ThreadRow) → get_or threads u.0 None ≡ Some row → 0 < times_called r.outstanding u
     → (row.stage ≡ Live → row.waiting ≡ waiting.Reply) → (f row).stage ≡ Live → (f row).waiting ≡ waiting.Reply)
-    → sessions_used (with_row threads u f) servers r.outstanding ≤ sessions_there servers
     → total numbers_left (with_row threads u f) ≤ total numbers_left threads → AreMessages A threads servers r
     → AreMessages A (with_row threads u f) servers r
-messages-with_row A threads servers r u f waits few left h = messages-threads A threads (with_row threads u f) servers r
+messages-with_row A threads servers r u f waits left h = messages-threads A threads (with_row threads u f) servers r
     (λ message among there. is_some-with_row threads u f message.row.client ∙ there)
     (λ v row called is. was_row threads u f
     (λ (k : ℕ) (y : ThreadRow). 0 < times_called r.outstanding (record { 0 = k }) → y.stage ≡ Live → y.waiting
     ≡ waiting.Reply)
-    (λ old was now. waits old was now (h.replies u old now was)) (λ k old was now. h.replies (record { 0 = k }) old now was) v.0 row is called) few
+    (λ old was now. waits old was now (h.replies u old now was)) (λ k old was now. h.replies (record { 0 = k }) old now was) v.0 row is called)
     (let a = total-with thread_bit (option_map f) None threads u.0 refl in
     let b = some_bit f (get_or threads u.0 None) in let c = h.threads_few in omega arith) left h
 
@@ -88,11 +87,10 @@ pub begun_one : (p : Option Part) → begun p ≤ 1
 begun_one (Some part.Done) = omega arith
 begun_one _ = omega arith
 
--- a row changes that begins no sending, brings nobody back to life, and goes back to no step
+-- a row changes that brings nobody back to life, and goes back to no step
 pub record KeepsMessages (f : ThreadRow → ThreadRow) : Type 0 where
   pub live : (row : ThreadRow) → (f row).stage ≡ Live → row.stage ≡ Live
   pub waits : (row : ThreadRow) → (f row).stage ≡ Live → (f row).waiting ≡ row.waiting
-  pub sends : (row : ThreadRow) → is_sending (f row).part ≤ is_sending row.part
   pub left : (row : ThreadRow) → numbers_left (Some (f row)) ≤ numbers_left (Some row)
 
 pub messages-kept : (A : ObjNo → ℕ → Type 0) (threads : List (Option ThreadRow)) (servers : ServerRows)
@@ -101,7 +99,6 @@ pub messages-kept : (A : ObjNo → ℕ → Type 0) (threads : List (Option Threa
 messages-kept A threads servers r u f keeps h =
     messages-with_row A threads servers r u f
     (λ row is called was live. keeps.waits row live ∙ was (keeps.live row live))
-    (let a = fewer-with_row sending_bit threads u f (λ row is. keeps.sends row) in let b = h.few in omega arith)
     (fewer-with_row numbers_left threads u f (λ row is. keeps.left row)) h
 
 -- a thread's row goes that no message names
@@ -114,7 +111,6 @@ messages-swept A threads servers r o unnamed h = messages-threads A threads (set
     (λ v row called is. h.replies v row called
     (set_item (λ (x : Option ThreadRow). x ≡ Some row → get_or threads v.0 None ≡ Some row) threads o.0 v.0 None None
     (λ at e. absurd (cc)) (λ e. e) is))
-    (let a = fewer sending_bit refl in let b = h.few in omega arith)
     (let a = fewer thread_bit refl in let b = h.threads_few in omega arith) (fewer numbers_left refl) h
   where
     apart : (message : Message) → Contains r.outstanding message → message.row.client.0 ≡ o.0 → ⊥
@@ -146,29 +142,29 @@ messages-awaited A B threads servers r still h = record {
   awaited = λ u s some. still u s some (h.awaited u s some);
   called = h.called;
   replies = h.replies;
-  few = h.few;
+  closed = h.closed;
   threads_few = h.threads_few;
   numbered = h.numbered;
 }
 
--- other rows of sessions, of which no more are used
+-- other rows of sessions, of which none is to be closed that wasn't
 pub messages-sessions : (A : ObjNo → ℕ → Type 0) (threads : List (Option ThreadRow)) (servers new : ServerRows)
     (r : MessageRows)
-    → ((s : ObjNo) → IsSession servers s → IsSession new s)
-    → sessions_used threads new r.outstanding ≤ sessions_there new
+    → ((message : Message) → Contains r.outstanding message → IsSession servers message.row.session → IsSession new message.row.session)
+    → ((s : ObjNo) → times_closed new r.outstanding s ≤ 1)
     → numbers_used threads new r ≤ 2 * THREAD_INSTRUCTIONS * THREADS → AreMessages A threads servers r
     → AreMessages A threads new r
-messages-sessions A threads servers new r known few numbered h = record {
+messages-sessions A threads servers new r known closed numbered h = record {
   objects = h.objects;
   rising = h.rising;
   given = h.given;
-  sessions = λ message among. known message.row.session (h.sessions message among);
+  sessions = λ message among. known message among (h.sessions message among);
   clients = h.clients;
   sent = h.sent;
   awaited = h.awaited;
   called = h.called;
   replies = h.replies;
-  few = few;
+  closed = closed;
   threads_few = h.threads_few;
   numbered = numbered;
 }

@@ -10,12 +10,15 @@ use Rattle.state_rows.specs.Locks as lock
 use Rattle.state_rows.specs.ServerRows.{is_closing}
 use Rattle.state_rows.specs.declared.locks.LockRows.{LockRows}
 use Rattle.state_rows.specs.declared.servers.ServerRows.{ServerRows}
+use Rattle.state_rows.specs.declared.object.ObjectRow.{ObjectRow}
 use Rattle.state_rows.specs.declared.thread.ThreadRow.{ThreadRow}
 use Rattle.machine.specs.References.{mutex_names, same, total}
 use Rattle.machine.specs.ServerMoves.{owned_gain, owned_lose}
 use Rattle.machine.specs.ThreadCalls.{is_live}
 use Rattle.machine.specs.Serving.{AreServers, IsServerOf, times_owned}
 use Rattle.move_laws.proofs.References.Mutexes.{held-holding, held-not_holding}
+use Rattle.move_laws.proofs.RowLaws.Locks.{HasThose}
+use Rattle.move_laws.proofs.RowLaws.ServersKept.{KeepsOver}
 use Rattle.move_laws.proofs.References.Same.{eqb_apart, if_is, if_le, if_not, same_is, same_le, same_object}
 
 -- who owns something is a thread
@@ -26,7 +29,7 @@ owned_inside owned t o some = elim (cases_lt t.0 (length owned)) as (λ _. t.0 <
 ]
 
 -- threads own fewer servers
-pub servers-fewer : (spent : ThreadRow → Bool) (objects : ℕ) (threads : List (Option ThreadRow)) (locks : LockRows)
+pub servers-fewer : (spent : ThreadRow → Bool) (objects : List (Option ObjectRow)) (threads : List (Option ThreadRow)) (locks : LockRows)
     (owned other : List (List ObjNo)) (r : ServerRows)
     → length other ≡ length owned → ((t o : ObjNo) → times_owned other t o ≤ times_owned owned t o)
     → ((k : ℕ) → get_or owned k [] ≡ [] → get_or other k [] ≡ [])
@@ -43,7 +46,9 @@ servers-fewer spent objects threads locks owned other r long fewer nothing h = r
   unlinked = h.unlinked;
   unlocked = h.unlocked;
   sessions = h.sessions;
-  sessions_later = h.sessions_later;
+  sessions_apart = h.sessions_apart;
+  links_apart = h.links_apart;
+  sessions_over = h.sessions_over;
   linked = h.linked;
   sessions_made = h.sessions_made;
   linked_made = h.linked_made;
@@ -69,11 +74,11 @@ owned_then owned t o u x inside some =
       ]
     ]
 
-pub servers-owned : (spent : ThreadRow → Bool) (objects more : ℕ) (threads : List (Option ThreadRow)) (locks : LockRows)
+pub servers-owned : (spent : ThreadRow → Bool) (objects more : List (Option ObjectRow)) (threads : List (Option ThreadRow)) (locks : LockRows)
     (owned : List (List ObjNo)) (r : ServerRows) (t o : ObjNo)
-    → objects ≤ more → MayOwn spent threads owned r t o
+    → HasThose objects more → KeepsOver objects more → MayOwn spent threads owned r t o
     → AreServers spent objects threads locks owned r → AreServers spent more threads locks (owned_gain (Own t) o owned) r
-servers-owned spent objects more threads locks owned r t o le may h = record {
+servers-owned spent objects more threads locks owned r t o those over may h = record {
   servers_sized = h.servers_sized;
   sessions_sized = h.sessions_sized;
   linked_sized = h.linked_sized;
@@ -98,17 +103,19 @@ servers-owned spent objects more threads locks owned r t o le may h = record {
   unlinked = h.unlinked;
   unlocked = h.unlocked;
   sessions = h.sessions;
-  sessions_later = h.sessions_later;
+  sessions_apart = h.sessions_apart;
+  links_apart = h.links_apart;
+  sessions_over = λ x done. h.sessions_over x (over x.0 done);
   linked = h.linked;
-  sessions_made = λ s past. h.sessions_made s (omega arith);
-  linked_made = λ x past. h.linked_made x (omega arith);
+  sessions_made = λ s none. h.sessions_made s (those s.0 none);
+  linked_made = λ x none. h.linked_made x (those x.0 none);
 }
   where
     then : (u x : ObjNo) → 0 < times_owned (owned_gain (Own t) o owned) u x → (0 < times_owned owned u x) ⊎ ((t ≡ u) × (o ≡ x))
     then u x some = owned_then owned t o u x may.inside some
 
 -- and one less
-pub servers-unowned : (spent : ThreadRow → Bool) (objects : ℕ) (threads : List (Option ThreadRow)) (locks : LockRows)
+pub servers-unowned : (spent : ThreadRow → Bool) (objects : List (Option ObjectRow)) (threads : List (Option ThreadRow)) (locks : LockRows)
     (owned : List (List ObjNo)) (r : ServerRows) (t o : ObjNo)
     → t.0 < length owned → times_owned owned t o ≡ 1 → AreServers spent objects threads locks owned r
     → AreServers spent objects threads locks (owned_lose (Own t) o owned) r

@@ -11,11 +11,13 @@ use Rattle.state_rows.specs.declared.locks.LockRows.{LockRows}
 use Rattle.state_rows.specs.declared.servers.ServerRow.{ServerRow}
 use Rattle.state_rows.specs.declared.servers.ServerRows.{ServerRows}
 use Rattle.state_rows.specs.declared.servers.SessionRow.{SessionRow}
+use Rattle.state_rows.specs.declared.object.ObjectRow.{ObjectRow}
 use Rattle.state_rows.specs.declared.thread.ThreadRow.{ThreadRow}
 use Rattle.machine.specs.References.{same}
-use Rattle.machine.specs.Serving.{AreServers, IsServerOf}
+use Rattle.machine.specs.Serving.{AreServers, IsServerOf, is_over}
 use Rattle.move_laws.proofs.Lists.Mapped.{made-here, made-other, mapped-none, mapped-some, mapped-value}
 use Rattle.move_laws.proofs.Readiness.ReadyLists.{listed-filter}
+use Rattle.move_laws.proofs.RowLaws.Locks.{HasThose}
 
 -- the owner that a row has
 abbrev pub owner : Option ServerRow → Option ObjNo
@@ -37,7 +39,7 @@ closing_closes : (x : Option ServerRow) → closes x ≡ true → closes (option
 closing_closes None e = e
 closing_closes (Some row) e = refl
 
-module _ (spent : ThreadRow → Bool) (objects : ℕ) (threads : List (Option ThreadRow)) (locks : LockRows) (owned : List (List ObjNo)) where
+module _ (spent : ThreadRow → Bool) (objects : List (Option ObjectRow)) (threads : List (Option ThreadRow)) (locks : LockRows) (owned : List (List ObjNo)) where
   -- a server begins to close
   pub servers-closing : (r : ServerRows) (o : ObjNo) → AreServers spent objects threads locks owned r
       → AreServers spent objects threads locks owned (after_closing r o)
@@ -55,7 +57,9 @@ module _ (spent : ThreadRow → Bool) (objects : ℕ) (threads : List (Option Th
     unlinked = λ x is. h.unlinked x (was x is);
     unlocked = λ x is. h.unlocked x (was x is);
     sessions = λ s x at. mapped-some closing r.servers o.0 x.0 ∙ h.sessions s x at;
-    sessions_later = h.sessions_later;
+    sessions_apart = h.sessions_apart;
+    links_apart = h.links_apart;
+    sessions_over = h.sessions_over;
     linked = h.linked;
     sessions_made = h.sessions_made;
     linked_made = h.linked_made;
@@ -81,7 +85,9 @@ module _ (spent : ThreadRow → Bool) (objects : ℕ) (threads : List (Option Th
     unlinked = λ x is. let was = h.unlinked x is in (was.0, mapped-none f r.sessions s.0 x.0 was.1);
     unlocked = h.unlocked;
     sessions = λ y x at. h.sessions y x (sym (same y) ∙ at);
-    sessions_later = λ y below. mapped-none f r.sessions s.0 y.0 (h.sessions_later y below);
+    sessions_apart = λ y thread. mapped-none f r.sessions s.0 y.0 (h.sessions_apart y thread);
+    links_apart = λ k row p is link. mapped-none f r.sessions s.0 p.0 (h.links_apart k row p is link);
+    sessions_over = λ y over. same y ∙ h.sessions_over y over;
     linked = λ y x there. same y ∙ h.linked y x there;
     sessions_made = λ y past. mapped-none f r.sessions s.0 y.0 (h.sessions_made y past);
     linked_made = h.linked_made;
@@ -124,11 +130,16 @@ unlisted-holds (Some v) s y linked j there =
       )
     ]
 
--- a session is detached
-module _ (spent : ThreadRow → Bool) (objects : ℕ) (threads : List (Option ThreadRow)) (locks : LockRows) (owned : List (List ObjNo)) where
-  pub servers-detach : (r : ServerRows) (s : ObjNo) → AreServers spent objects threads locks owned r
-      → AreServers spent objects threads locks owned (after_detach r s)
-  servers-detach r s h = record {
+-- Other objects, of which none is over that wasn't, but for one
+abbrev pub OthersLast : List (Option ObjectRow) → List (Option ObjectRow) → ObjNo → Type 0
+OthersLast objects more o =
+    HasThose objects more × ((x : ObjNo) → (o.0 ≡ x.0 → ⊥) → is_over (get_or more x.0 None) ≡ true → is_over (get_or objects x.0 None) ≡ true)
+
+-- a session is detached, and may be over then
+module _ (spent : ThreadRow → Bool) (objects more : List (Option ObjectRow)) (threads : List (Option ThreadRow)) (locks : LockRows) (owned : List (List ObjNo)) where
+  pub servers-detached : (r : ServerRows) (s : ObjNo) → OthersLast objects more s → AreServers spent objects threads locks owned r
+      → AreServers spent more threads locks owned (after_detach r s)
+  servers-detached r s last h = record {
     servers_sized = h.servers_sized;
     sessions_sized = length-set r.sessions s.0 _ ∙ h.sessions_sized;
     linked_sized = length-unlisted (server_of r s) s r.linked ∙ h.linked_sized;
@@ -143,7 +154,12 @@ module _ (spent : ThreadRow → Bool) (objects : ℕ) (threads : List (Option Th
       | inl same ↦ let none = here y same in absurd (cc)
       | inr apart ↦ h.sessions y x (sym (there y apart) ∙ at)
     ];
-    sessions_later = λ y below. mapped-none detached r.sessions s.0 y.0 (h.sessions_later y below);
+    sessions_apart = λ y thread. mapped-none detached r.sessions s.0 y.0 (h.sessions_apart y thread);
+    links_apart = λ k row p is link. mapped-none detached r.sessions s.0 p.0 (h.links_apart k row p is link);
+    sessions_over = λ y over. elim (cases_eq s.0 y.0) as (λ _. server_of (after_detach r s) y ≡ None) [
+      | inl same ↦ here y same
+      | inr apart ↦ there y apart ∙ h.sessions_over y (last.1 y apart over)
+    ];
     linked = λ y x listed.
         let kept = unlisted-holds (server_of r s) s y r.linked x.0 listed in
         let was = h.linked y x kept.0 in
@@ -151,8 +167,8 @@ module _ (spent : ThreadRow → Bool) (objects : ℕ) (threads : List (Option Th
           | inl same ↦ absurd (kept.1 x (ap (λ (n : ℕ). link_of (get_or r.sessions n None)) same ∙ was) refl (sym same))
           | inr apart ↦ there y apart ∙ was
         ];
-    sessions_made = λ y past. mapped-none detached r.sessions s.0 y.0 (h.sessions_made y past);
-    linked_made = λ x past. none-unlisted (server_of r s) s r.linked x.0 (h.linked_made x past);
+    sessions_made = λ y gone. mapped-none detached r.sessions s.0 y.0 (h.sessions_made y (last.0 y.0 gone));
+    linked_made = λ x gone. none-unlisted (server_of r s) s r.linked x.0 (h.linked_made x (last.0 x.0 gone));
   }
     where
       here : (y : ObjNo) → s.0 ≡ y.0 → server_of (after_detach r s) y ≡ None
@@ -160,3 +176,10 @@ module _ (spent : ThreadRow → Bool) (objects : ℕ) (threads : List (Option Th
 
       there : (y : ObjNo) → (s.0 ≡ y.0 → ⊥) → server_of (after_detach r s) y ≡ server_of r y
       there y apart = ap link_of (made-other (option_map detached) None r.sessions s.0 y.0 apart)
+
+-- with the same objects
+pub servers-detach : (spent : ThreadRow → Bool) (objects : List (Option ObjectRow)) (threads : List (Option ThreadRow))
+    (locks : LockRows) (owned : List (List ObjNo)) (r : ServerRows) (s : ObjNo)
+    → AreServers spent objects threads locks owned r → AreServers spent objects threads locks owned (after_detach r s)
+servers-detach spent objects threads locks owned r s h =
+    servers-detached spent objects objects threads locks owned r s ((λ k none. none), (λ x apart over. over)) h

@@ -1,9 +1,10 @@
 -- Threads that have given up all, where a row, a slot of a table or an object changes.
-use Rattle.std.proofs.Common.{◌≡◌, ℕ, zero, suc, true, false, List, [], ◌∷◌, ◌++◌, get_or, set, arith, refl, sym, ap, subst, ◌∙◌, inl, inr, Option, Some, None}
+use Rattle.std.proofs.Common.{◌≡◌, ℕ, ◌≤◌, true, false, List, [], length, get_or, set, arith, refl, sym, ap, subst, ◌∙◌, inl, inr, Option, Some, None}
 use Rattle.std.proofs.lemmas.Bool.{cases_eq}
 use Rattle.std.proofs.lemmas.List.{get_or-set_other}
 use Rattle.sym_base.specs.declared.number.ObjNo.{ObjNo}
 use Rattle.state_rows.specs.HandleSlots.{fresh_slot, slot_at}
+use Rattle.state_rows.specs.ObjectRows.{dead_row, with_object}
 use Rattle.state_rows.proofs.SoundChanges.{set_item}
 use Rattle.state_rows.specs.declared.handle_slot.HandleSlot.{HandleSlot}
 use Rattle.state_rows.specs.declared.object.ObjectRow.{ObjectRow}
@@ -13,9 +14,13 @@ use Rattle.machine.specs.Handles.{freed_slot, with_slot}
 use Rattle.machine.specs.Moves.{unlinked}
 use Rattle.machine.specs.Rows.{with_row}
 use Rattle.machine.specs.Out.{is_returning}
-use Rattle.machine.specs.WellFormed.{AreSpent, IsSpent, is_dead, is_spent}
+use Rattle.machine.specs.WellFormed.{AreSpent, IsSpent, dead_bit, is_dead, is_spent}
 use Rattle.move_laws.proofs.Holders.ThreadRows.{row-here}
-use Rattle.move_laws.proofs.RowLaws.Threads.{map_some, was_row}
+use Rattle.move_laws.proofs.Lists.Mapped.{made-here}
+use Rattle.move_laws.proofs.Lists.Sets.{set_default}
+use Rattle.move_laws.proofs.Lives.NewObjects.{made-other, made-own}
+use Rattle.move_laws.proofs.RowLaws.Locks.{HasThose}
+use Rattle.move_laws.proofs.RowLaws.Threads.{map_some, none-with_row, was_row}
 
 -- a change of a row, after which the thread has given up all if its death came so far
 pub spent-with_row : (objects : List (Option ObjectRow)) (tables : List (List HandleSlot))
@@ -31,6 +36,7 @@ spent-with_row objects tables threads u f here link h = record {
   unlinked =
       λ k row is. was_row threads u f (λ (n : ℕ) (r : ThreadRow). is_dead (get_or objects n None) ≡ 1 → r.link ≡ None)
       (λ old was dead. link old (h.unlinked u.0 old was dead)) h.unlinked k row is;
+  threads_made = λ k none. none-with_row threads u f k (h.threads_made k none);
 }
 
 -- a change of a row that gives nothing back, and begins no wait and no return
@@ -76,6 +82,7 @@ spent-slot objects tables threads p i change going h = record {
         record { unused = s.unused; waits = s.waits; going = s.going; empty = λ j. ap (λ (table : List HandleSlot). (slot_at table j).object) same ∙ s.empty j }
   ];
   unlinked = h.unlinked;
+  threads_made = h.threads_made;
 }
 
 -- a slot of any table that becomes free
@@ -93,22 +100,37 @@ spent-freed objects tables threads p i h = record {
         (subst (λ (n : ℕ). (slot_at (get_or tables n []) j).object ≡ None) at (s.empty j))) (s.empty j);
   };
   unlinked = h.unlinked;
+  threads_made = h.threads_made;
 }
 
--- other objects, of which no more are dead
+-- other objects, of which no more are dead and none went
 pub spent-objects : (objects other : List (Option ObjectRow)) (tables : List (List HandleSlot))
     (threads : List (Option ThreadRow))
     → ((k : ℕ) → is_dead (get_or other k None) ≡ 1 → is_dead (get_or objects k None) ≡ 1)
-    → AreSpent objects tables threads → AreSpent other tables threads
-spent-objects objects other tables threads fewer h = record { rows = h.rows; unlinked = λ k row is dead. h.unlinked k row is (fewer k dead) }
+    → HasThose objects other → AreSpent objects tables threads → AreSpent other tables threads
+spent-objects objects other tables threads fewer those h = record {
+  rows = h.rows;
+  unlinked = λ k row is dead. h.unlinked k row is (fewer k dead);
+  threads_made = λ k none. h.threads_made k (those k none);
+}
 
--- such are those with a further one that is alive
-pub made-dead : (objects : List (Option ObjectRow)) (new : ObjectRow) → new.dead ≡ false → (k : ℕ)
-    → is_dead (get_or (objects ++ Some new ∷ []) k None) ≡ 1 → is_dead (get_or objects k None) ≡ 1
-made-dead [] new alive zero dead = let a : is_dead (Some new) ≡ 0 = rw alive refl in absurd (omega arith)
-made-dead [] new alive (suc k) dead = dead
-made-dead (x ∷ xs) new alive zero dead = dead
-made-dead (x ∷ xs) new alive (suc k) dead = made-dead xs new alive k dead
+-- such are those with a new one that is alive
+pub made-dead : (objects : List (Option ObjectRow)) (n : ℕ) (new : ObjectRow) → n ≤ length objects → new.dead ≡ false → (k : ℕ)
+    → is_dead (get_or (with_object objects n new) k None) ≡ 1 → is_dead (get_or objects k None) ≡ 1
+made-dead objects n new le alive k dead = elim (cases_eq k n) as (λ _. is_dead (get_or objects k None) ≡ 1) [
+  | inl at ↦
+      let a : is_dead (get_or (with_object objects n new) k None) ≡ 0 = ap (λ (i : ℕ). is_dead (get_or (with_object objects n new) i None)) at
+      ∙ ap is_dead (made-own objects n new le) ∙ ap dead_bit alive in absurd (omega arith)
+  | inr apart ↦ ap is_dead (sym (made-other objects n k new le apart)) ∙ dead
+]
+
+pub made-those : (objects : List (Option ObjectRow)) (n : ℕ) (new : ObjectRow) → n ≤ length objects → HasThose objects (with_object objects n new)
+made-those objects n new le k none = elim (cases_eq k n) as (λ _. get_or objects k None ≡ None) [
+  | inl at ↦
+      let a : get_or (with_object objects n new) k None ≡ Some new = ap (λ (i : ℕ). get_or (with_object objects n new) i None) at ∙ made-own objects n new le in
+      absurd (cc)
+  | inr apart ↦ sym (made-other objects n k new le apart) ∙ none
+]
 
 -- and those without one
 pub swept-dead : (objects : List (Option ObjectRow)) (o k : ℕ) → is_dead (get_or (set objects o None) k None) ≡ 1 → is_dead (get_or objects k None) ≡ 1
@@ -116,17 +138,39 @@ swept-dead objects o k =
     set_item (λ (row : Option ObjectRow). is_dead row ≡ 1 → is_dead (get_or objects k None) ≡ 1) objects o k None None
     (λ at dead. absurd (omega arith)) (λ dead. dead)
 
+-- and those of which one died
+pub died-those : (objects : List (Option ObjectRow)) (o : ℕ) → HasThose objects (set objects o (dead_row (get_or objects o None)))
+died-those objects o k none =
+    elim (cases_eq o k) as (λ _. get_or objects k None ≡ None) [
+      | inl at ↦ none_dead (get_or objects k None) (sym (get-with-at at) ∙ none)
+      | inr apart ↦ sym (get_or-set_other objects o k (dead_row (get_or objects o None)) None (λ e. apart (sym e))) ∙ none
+    ]
+  where
+    none_dead : (row : Option ObjectRow) → dead_row row ≡ None → row ≡ None
+    none_dead None e = refl
+    none_dead (Some row) e = absurd (cc)
+
+    get-with-at : o ≡ k → get_or (set objects o (dead_row (get_or objects o None))) k None ≡ dead_row (get_or objects k None)
+    get-with-at at = made-here dead_row None objects o k refl at
+
 -- an object dies, and its link is taken off its row
 pub spent-died : (objects : List (Option ObjectRow)) (tables : List (List HandleSlot))
-    (threads : List (Option ThreadRow)) (o : ObjNo) (dead : Option ObjectRow)
-    → AreSpent objects tables threads → AreSpent (set objects o.0 dead) tables (with_row threads o unlinked)
-spent-died objects tables threads o dead h = record {
+    (threads : List (Option ThreadRow)) (o : ObjNo)
+    → AreSpent objects tables threads
+    → AreSpent (set objects o.0 (dead_row (get_or objects o.0 None))) tables (with_row threads o unlinked)
+spent-died objects tables threads o h = record {
   rows = kept.rows;
   unlinked = λ k row is gone. elim (cases_eq o.0 k) as (λ _. row.link ≡ None) [
     | inl at ↦
         let was = map_some unlinked (get_or threads o.0 None) row (sym (row-here threads o unlinked k at) ∙ is) in
         sym (ap (λ (r : ThreadRow). r.link) was.2)
-    | inr apart ↦ kept.unlinked k row is (ap is_dead (sym (get_or-set_other objects o.0 k dead None (λ e. apart (sym e)))) ∙ gone)
+    | inr apart ↦
+        kept.unlinked k row is (ap is_dead (sym
+        (get_or-set_other objects o.0 k (dead_row (get_or objects o.0 None)) None (λ e. apart (sym e)))) ∙ gone)
+  ];
+  threads_made = λ k none. elim (cases_eq o.0 k) as (λ _. get_or (with_row threads o unlinked) k None ≡ None) [
+    | inl at ↦ kept.threads_made k (died-those objects o.0 k none)
+    | inr apart ↦ kept.threads_made k (sym (get_or-set_other objects o.0 k (dead_row (get_or objects o.0 None)) None (λ e. apart (sym e))) ∙ none)
   ];
 }
   where
@@ -143,6 +187,10 @@ pub spent-swept : (objects : List (Option ObjectRow)) (tables : List (List Handl
 spent-swept objects tables threads o h = record {
   rows = λ k row is. h.rows k row (there k row is);
   unlinked = λ k row is gone. h.unlinked k row (there k row is) (swept-dead objects o k gone);
+  threads_made = λ k none. elim (cases_eq k o) as (λ _. get_or (set threads o None) k None ≡ None) [
+    | inl at ↦ set_default threads o k None at
+    | inr apart ↦ get_or-set_other threads o k None None apart ∙ h.threads_made k (sym (get_or-set_other objects o k None None apart) ∙ none)
+  ];
 }
   where
     there : (k : ℕ) (row : ThreadRow) → get_or (set threads o None) k None ≡ Some row → get_or threads k None ≡ Some row

@@ -1,6 +1,6 @@
 -- A thread's row goes that has given up all.
-use Rattle.std.proofs.Common.{◌≡◌, ℕ, false, List, [], get_or, set, arith, refl, sym, ap, subst, ◌∙◌, inl, inr, Option, Some, None}
-use Rattle.std.specs.Prelude.{is_some, not}
+use Rattle.std.proofs.Common.{◌≡◌, ℕ, Bool, false, List, [], get_or, set, arith, refl, sym, ap, subst, ◌∙◌, inl, inr, Option, Some, None}
+use Rattle.std.specs.Prelude.{◌==◌, ◌&&◌, is_some, not}
 use Rattle.std.proofs.lemmas.Bool.{cases_eq}
 use Rattle.std.proofs.lemmas.List.{get_or-set_other, length-set}
 use Rattle.sym_base.specs.declared.number.ObjNo.{ObjNo}
@@ -115,12 +115,13 @@ counts-swept tables threads o p over =
     let was : thread_names p (get_or threads o None) ≡ 0 = ap (thread_names p) over.is ∙ names-none over.row p over.unlinked over.spent.unused in omega arith
 
 -- it is out on nothing
-pub seeks-swept : (tables : List (List HandleSlot)) (threads : List (Option ThreadRow)) (o : ℕ) (p : ObjNo)
-    → IsOver tables threads o → total (seeks p) (set threads o None) ≡ total (seeks p) threads
-seeks-swept tables threads o p over =
-    let moved = total-set (seeks p) threads o None None (inside threads o over.row over.is) in
-    let was : seeks p (get_or threads o None) ≡ 0 = ap (seeks p) over.is
-    ∙ if_not (is_returning over.row.part) (same (found_object over.row) p) over.spent.going in
+pub seeks-swept : (tables : List (List HandleSlot)) (threads : List (Option ThreadRow)) (o : ℕ) (p : ObjNo) (place : ℕ)
+    → IsOver tables threads o → total (seeks p place) (set threads o None) ≡ total (seeks p place) threads
+seeks-swept tables threads o p place over =
+    let moved = total-set (seeks p place) threads o None None (inside threads o over.row over.is) in
+    let back : (is_returning over.row.part && over.row.sought == place) ≡ false = ap (λ (b : Bool). b && over.row.sought == place) over.spent.going in
+    let was : seeks p place (get_or threads o None) ≡ 0 = ap (seeks p place) over.is
+    ∙ if_not (is_returning over.row.part && over.row.sought == place) (same (found_object over.row) p) back in
     omega arith
 
 -- a number of each row that is 0 of this and where there is none

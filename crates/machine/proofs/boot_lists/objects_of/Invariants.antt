@@ -1,6 +1,6 @@
-use Rattle.std.proofs.Common.{◌≡◌, ◌++◌, drop, map, Some}
-use Rattle.machine.specs.declared.boot.Born.{Born}
+use Rattle.std.proofs.Common.{◌≡◌, ◌++◌, drop}
+use Rattle.machine.specs.Boot.{objects_from}
 use Rattle.machine.proofs.boot_lists.objects_of.Given as goal
 
-abbrev pub invariant-loop-born : goal.invariant-loop-born
-invariant-loop-born l = l.objects.items ++ map (λ (b : Born). Some b.object) (drop l.born-index l.all) ≡ map (λ (b : Born). Some b.object) l.all
+abbrev pub invariant-loop-n : goal.invariant-loop-n
+invariant-loop-n l = l.objects.items ++ objects_from l.n (drop l.n l.all) ≡ objects_from 0 l.all
