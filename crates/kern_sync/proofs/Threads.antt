@@ -3,6 +3,7 @@ use Rattle.std.proofs.Common.{◌≡◌, ℕ, true, false, eqb, List, [], ◌∷
 use Rattle.std.specs.Prelude.{Option, Some, None, option_map}
 use Rattle.std.specs.List.{list_any}
 use Rattle.std.proofs.lemmas.Bool.{cases_Bool}
+use Rattle.std.proofs.lemmas.List.{map-set}
 use Rattle.sym_base.specs.declared.number.ObjNo.{ObjNo}
 use Rattle.links.specs.Linked as nodes
 use Rattle.links.proofs.Seen.{seen_at, seen_fresh, seen_pushed, seen_any, seen_unlinked, seen_removed}
@@ -30,6 +31,10 @@ pub queue_left : (lists : List (List ℕ)) (o : ℕ) (t : ObjNo)
     → queues_of (set lists o (nodes.without t.0 (get_or lists o [])))
     ≡ set (queues_of lists) o (without t (get_or (queues_of lists) o []))
 queue_left lists o t = seen_removed thread (λ (other : ObjNo). eqb other.0 t.0) t.0 (λ m. refl) lists o
+
+-- and none is left
+pub queue_emptied : (lists : List (List ℕ)) (o : ℕ) → queues_of (set lists o []) ≡ set (queues_of lists) o []
+queue_emptied lists o = map-set (map thread) lists o []
 
 -- the thread of a number is that number's
 pub option_thread : (t : ObjNo) (r : Option ℕ) → Some t ≡ option_map thread r → r ≡ Some t.0

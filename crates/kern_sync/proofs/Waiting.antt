@@ -12,9 +12,9 @@ use Rattle.state_rows.specs.declared.locks.Owner.{Owner}
 use Rattle.state_rows.specs.declared.locks.LockRows.{LockRows}
 use Rattle.kern_sync.specs.KernelLocks.{KernelLocks, best_of, priority_of, with_rows, without_best}
 use Rattle.state_rows.specs.Locks.{owner_at, count_at, waiters_at, is_waiting}
-use Rattle.state_rows.specs.LockChanges.{after_remove, after_wait}
+use Rattle.state_rows.specs.LockChanges.{after_remove, after_sweep, after_wait}
 use Rattle.kern_sync.specs.Kept.{AreKept, thread, locks_of, queues_of}
-use Rattle.kern_sync.proofs.Threads.{all_without_absent, all_without_thread, any_thread, queue_thread, queue_added, queue_left, option_thread}
+use Rattle.kern_sync.proofs.Threads.{all_without_absent, all_without_thread, any_thread, queue_thread, queue_added, queue_emptied, queue_left, option_thread}
 
 -- a test that fails has the other answer
 pub unheld : (b : Bool) → (b ≡ true → ⊥) → b ≡ false
@@ -113,3 +113,20 @@ waiter_removed owners counts priorities links t = rw (all_without_thread t links
 
 pub waiter_absent : (s : KernelLocks) (t : ObjNo) → is_waiting s.rows t ≡ false → s ≡ with_rows s (after_remove s.rows t)
 waiter_absent s t absent = rw (all_without_absent t s.rows.waiters absent) refl
+
+-- an object whose owner, count and waiters are gone
+pub list_emptied : (owners : List (Option Owner)) (counts priorities : List ℕ) (links : Linked) (o : ObjNo)
+    → locks_of (set owners o.0 None) (set counts o.0 0) priorities (with_list links o.0 [])
+    ≡ with_rows (locks_of owners counts priorities links) (after_sweep (locks_of owners counts priorities links).rows o)
+list_emptied owners counts priorities links o = rw (queue_emptied links.lists o.0) refl
+
+-- of such an object all is kept too
+pub emptied_kept : (owners : List (Option Owner)) (counts priorities : List ℕ) (links : Linked) (o : ℕ)
+    → AreKept owners counts priorities links
+    → AreKept (set owners o None) (set counts o 0) priorities (with_list links o [])
+emptied_kept owners counts priorities links o kept = record {
+  small = kept.small;
+  lists = rw length-set (rw length-set kept.lists);
+  counted = rw length-set (rw length-set kept.counted);
+  weighed = kept.weighed;
+}

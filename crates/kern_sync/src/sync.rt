@@ -1,10 +1,11 @@
 //! The table of mutexes and semaphores, and its calls.
 ghost use Rattle.std.specs.Prelude.{◌≡◌, ℕ, pos, ◌≤ℤ◌, false, ◌<◌, ◌≤◌, ◌↔◌, [], not, ◌==◌, IsNone, IsSome, length, slice_set, IfOk, IfSome};
+ghost use Rattle.links.specs.Linked.{with_list};
 ghost use Rattle.sym_base.specs.declared.number.ObjNo.{ObjNo};
 ghost use Rattle.state_rows.specs.Locks.{owner_at, count_at, waiters_at, is_waiting};
 ghost use Rattle.kern_sync.specs.KernelLocks.{new_locks, best_of, with_rows, without_best, after_priority};
 ghost use Rattle.state_rows.specs.NanoChanges.{one_more};
-ghost use Rattle.state_rows.specs.LockChanges.{start_count, after_new_row, lock_answer, after_lock, unlock_answer, after_unlock, after_free, after_wait, signal_answer, after_signal, after_remove};
+ghost use Rattle.state_rows.specs.LockChanges.{start_count, after_new_row, lock_answer, after_lock, unlock_answer, after_unlock, after_free, after_wait, signal_answer, after_signal, after_sweep, after_remove};
 ghost use Rattle.state_rows.specs.declared.locks.Locked.TheVariants.{Waits};
 ghost use Rattle.state_rows.specs.declared.locks.Unlocked.TheVariants.{NotOwner, Passed};
 ghost use Rattle.state_rows.specs.declared.locks.Signalled.TheVariants.{Overflow, Woke};
@@ -187,6 +188,16 @@ impl KernSync {
         Signalled::Counted
     }
 
+    /// Nobody owns an object or waits for it any more, and its count is 0.
+    pub fn sweep(&mut self, o: ObjNo)
+        requires { o.0 < length self.old.rows.owners }
+        ensures { self.new ≡ with_rows self.old (after_sweep self.old.rows o) }
+    {
+        self.owners[o.0 as usize] = None;
+        self.counts[o.0 as usize] = 0;
+        empty_list(&mut self.links, o.0 as u32);
+    }
+
     /// Ends the wait of a thread. Where it waits for nothing, nothing changes.
     pub fn remove_waiter(&mut self, t: ThreadNo)
         requires { t.0 < length self.old.priorities }
@@ -299,4 +310,12 @@ fn count_from(start: Option<i32>) -> u32
         None => 0,
         Some(count) => count as u32,
     }
+}
+
+/// Takes each node of a list out of it.
+fn empty_list(links: &mut Links, list: u32)
+    requires { list < length links.old.lists }
+    ensures { links.new ≡ with_list links.old list [] }
+{
+    while let Some(_node) = links.pop_front(list) {}
 }

@@ -138,12 +138,12 @@ other_number rows numbers o place i listed inside is within other = λ also.
     ]
 
 -- the place that the search tells of an unswept object is the first, and where it tells a gap there is none
-pub found_position : (rows : Rows) (counts : List ℕ) (w : Words) (numbers : List ℕ) (kind : Kind) (name : List ℕ)
+pub found_position : (rows : Rows) (counts by_place : List ℕ) (reuse : Bool) (free : List ℕ) (w : Words) (numbers : List ℕ) (kind : Kind) (name : List ℕ)
     (place : ℕ)
-    → AreKept rows counts w → AreListed rows numbers → is_session kind ≡ false → place < length numbers
+    → AreKept rows counts by_place reuse free w → AreListed rows numbers → is_session kind ≡ false → place < length numbers
     → key_order (key_at rows numbers place) (record { kind = kind; name = name }) ≡ Equal
     → Some (slice_index numbers place) ≡ position (has_name kind name) rows
-found_position rows counts w numbers kind name place kept listed named inside same =
+found_position rows counts by_place reuse free w numbers kind name place kept listed named inside same =
     let has = found_has rows numbers kind name place listed inside same in
     position_alone (has_name kind name) rows (slice_index numbers place) None
     (listed_made rows numbers place listed inside) has

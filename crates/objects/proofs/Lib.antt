@@ -1,5 +1,8 @@
 mod Finding
 mod Keeping
 mod Listing
+mod Marks
+mod Named
+mod Numbers
 mod Order
 mod SameKind

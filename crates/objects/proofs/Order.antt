@@ -15,7 +15,7 @@ use Rattle.sym_base.specs.declared.kind.Kind.{Kind}
 use Rattle.state_rows.specs.declared.object.ObjectRow.{ObjectRow}
 use Rattle.state_rows.specs.ObjectRows.{has_name}
 use Rattle.objects.specs.Rows.{row_at}
-use Rattle.objects.specs.Names.{Key, key_order, key_of, key_at, is_named, AreListed}
+use Rattle.objects.specs.Names.{Key, key_order, key_of, key_at, is_named, names_in, AreListed}
 
 abbrev pub Rows : Type 0
 Rows = List (Option ObjectRow)
@@ -76,7 +76,7 @@ greater_behind rows numbers key middle listed greater i above inside = elim (cas
 ]
 
 -- where two tables have the same keys at the same numbers, they list the same
-pub listed_alike : (rows others : Rows) (numbers : List ℕ) → AreListed rows numbers → length rows ≤ length others
+pub listed_alike : (rows others : Rows) (numbers : List ℕ) → AreListed rows numbers → names_in rows ≤ names_in others
     → ((o : ℕ) → is_named (row_at others o) ≡ is_named (row_at rows o))
     → ((o : ℕ) → key_of (row_at others o) ≡ key_of (row_at rows o)) → AreListed others numbers
 listed_alike rows others numbers listed long named key = record {

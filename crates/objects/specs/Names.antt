@@ -1,5 +1,5 @@
 -- The order of names, and the list of those that have objects.
-use Rattle.std.specs.Prelude.{◌≡◌, ℕ, ◌<◌, ◌≤◌, Bool, true, false, not, List, [], Option, Some, None, Result, Ok, Err, IsTrue, length, slice_index}
+use Rattle.std.specs.Prelude.{◌≡◌, ℕ, ◌+◌, ◌<◌, ◌≤◌, Bool, true, false, not, if◌then◌else◌, List, [], ◌∷◌, Option, Some, None, Result, Ok, Err, IsTrue, length, slice_index}
 use Rattle.std.specs.declared.cmp.Ordering.{Ordering}
 use Rattle.std.specs.declared.cmp.Ordering.TheVariants.{Less, Equal, Greater}
 use Rattle.std.specs.Ordering.{nat_cmp, ordering_then}
@@ -34,9 +34,17 @@ is_named (Some row) = not (is_session row.kind)
 abbrev pub key_at : List (Option ObjectRow) → List ℕ → ℕ → Key
 key_at rows numbers place = key_of (row_at rows (slice_index numbers place))
 
+-- how many rows have names
+abbrev pub named_bit : Option ObjectRow → ℕ
+named_bit row = if is_named row then 1 else 0
+
+abbrev pub names_in : List (Option ObjectRow) → ℕ
+names_in [] = 0
+names_in (row ∷ rest) = named_bit row + names_in rest
+
 -- the numbers of exactly the unswept objects that have names, each key less than the next
 pub record AreListed (rows : List (Option ObjectRow)) (numbers : List ℕ) : Type 0 where
-  pub few : length numbers ≤ length rows
+  pub few : length numbers ≤ names_in rows
   pub named : (i : ℕ) → i < length numbers → IsTrue (is_named (row_at rows (slice_index numbers i)))
   pub rising : (i j : ℕ) → i < j → j < length numbers → key_order (key_at rows numbers i) (key_at rows numbers j) ≡ Less
   pub complete : (o : ℕ) → IsTrue (is_named (row_at rows o)) → (i : ℕ) × (i < length numbers) × (slice_index numbers i ≡ o)

@@ -1,6 +1,7 @@
 //! Kernel objects: their kinds, names and reference counts.
 #![tactic(auto)]
 
+mod free;
 mod names;
 mod objects;
 mod row;

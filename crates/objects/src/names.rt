@@ -1,8 +1,9 @@
 //! The numbers of the objects that have names, in the order of the names.
-ghost use Rattle.std.specs.Prelude.{◌≡◌, ◌<◌, false, IfOk, IsTrue, ◌≤◌, length, slice_index, vec_capacity, vec_len, [], ◌∷◌, ◌++◌};
+ghost use Rattle.std.specs.Prelude.{◌≡◌, ◌<◌, false, IfOk, IsTrue, ◌≤◌, None, length, slice_index, vec_capacity, vec_len, []};
 ghost use Rattle.std.specs.List.{insert, remove};
-ghost use Rattle.objects.specs.Rows.{row_at, is_there, kept_name};
-ghost use Rattle.objects.specs.Calls.{rows_swept};
+ghost use Rattle.state_rows.specs.ObjectRows.{with_object};
+ghost use Rattle.objects.specs.Rows.{row_at, is_there};
+ghost use Rattle.objects.specs.Calls.{new_row, rows_swept};
 ghost use Rattle.objects.specs.Names.{key_order, key_of, is_named, AreListed, IsPlace, IsNewPlace};
 
 use state_rows::{ObjectRow, is_session};
@@ -83,15 +84,26 @@ impl Names {
         }
     }
 
-    /// Lists an object that is made now, whose row comes behind the others, at its place.
-    pub fn list(&mut self, rows: &[Option<ObjectRow>], kind: Kind, name: &Name, place: usize)
+    /// Lists an object that is made now with a free number, where so many were made before it, at its place in the list.
+    pub fn list(
+        &mut self,
+        rows: &[Option<ObjectRow>],
+        kind: Kind,
+        name: &Name,
+        place: usize,
+        number: usize,
+        made: u64,
+    )
         requires listed { AreListed rows.now self.old }
         requires is_new { IsNewPlace rows.now self.old kind name.now (Some place) }
-        requires room { length rows.now < 4096 }
-        ensures { AreListed (rows.now ++ Some (record { kind = kind; name = kept_name kind name.now; dead = false }) ∷ []) self.new }
+        requires within { number ≤ length rows.now }
+        requires free { row_at rows.now number ≡ None }
+        requires room { number < 4096 }
+        requires few { length rows.now ≤ 4096 }
+        ensures { AreListed (with_object rows.now number (new_row kind name.now made)) self.new }
     {
         if !is_session(kind) {
-            insert_at(&mut self.numbers, place, rows.len() as u16);
+            insert_at(&mut self.numbers, place, number as u16);
         }
     }
 

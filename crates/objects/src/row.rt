@@ -13,6 +13,8 @@ pub struct ObjRow {
     pub name: Name,
     pub count: u32,
     pub dead: bool,
+    /// How many objects were made before it.
+    pub place: u64,
 }
 
 /// The name that an object of a kind keeps: none for a session.

@@ -1,7 +1,8 @@
 //! Worked examples: a mutex is made and found, and an object is swept after its last reference went.
-ghost use Rattle.std.specs.Prelude.{◌≡◌, ◌<◌, ◌↔◌, IsTrue, length};
+ghost use Rattle.std.specs.Prelude.{◌≡◌, ◌-◌, ◌<◌, ◌↔◌, IsTrue, length, slice_index, slice_set};
+ghost use Rattle.state_rows.specs.ObjectRows.{place_of};
 ghost use Rattle.ref_words.specs.Words.{own_at, closed, IsOut};
-ghost use Rattle.objects.specs.Calls.{rows_closed};
+ghost use Rattle.objects.specs.Calls.{next_place, rows_closed};
 ghost use Rattle.objects.specs.Rows.{row_at, is_there};
 
 use crate::{Made, Objects};
@@ -12,7 +13,7 @@ use sym_base::{Kind, Name, ObjNo, read_name};
 #[test]
 fn a_mutex_is_made_once(rt: HostRuntime) -> Result<(), Fail> {
     let words = PlainWords::new(rt.alloc(), 4096)?;
-    let mut objects = Objects::new(rt.alloc(), words)?;
+    let mut objects = Objects::new(rt.alloc(), words, false)?;
     let name = read_name(b"door").ok_or("no name")?;
     assert_eq!(rt; objects.make(Kind::Mutex, &name), Made::Made(ObjNo(0)));
     assert_eq!(rt; objects.make(Kind::Mutex, &name), Made::NameTaken);
@@ -26,17 +27,18 @@ fn a_mutex_is_made_once(rt: HostRuntime) -> Result<(), Fail> {
 /// Over `PlainWords` a close is the last one exactly at one reference.
 fn close_plain(objects: &mut Objects<PlainWords>, o: ObjNo) -> Closed
     requires there { IsTrue (is_there (row_at objects.old.rows o.0)) }
-    requires known { 0 < own_at objects.old.words o.0 }
-    ensures answer { (result ≡ Closed.Last) ↔ (own_at objects.old.words o.0 ≡ 1) }
+    requires known { 0 < slice_index objects.old.counts o.0 }
+    ensures answer { (result ≡ Closed.Last) ↔ (slice_index objects.old.counts o.0 ≡ 1) }
     ensures rows { objects.new.rows ≡ rows_closed result objects.old.rows o.0 }
-    ensures words { objects.new.words ≡ closed result objects.old.words o.0 }
+    ensures counts { objects.new.counts ≡ slice_set objects.old.counts o.0 (slice_index objects.old.counts o.0 - 1) }
+    ensures words { objects.new.words ≡ closed result objects.old.words (place_of (row_at objects.old.rows o.0)) }
 {
     objects.close_ref(o)
 }
 
 /// Over `PlainWords` a note finds its object dead exactly where no reference is left.
 fn take_back_plain(objects: &mut Objects<PlainWords>, note: PlainNote) -> Found
-    requires { IsOut objects.old.words note }
+    requires out { IsOut objects.old.words note }
     ensures answer { (result ≡ Found.Dead) ↔ (own_at objects.old.words note.place ≡ 0) }
     ensures rows { objects.new.rows ≡ objects.old.rows }
 {
@@ -46,7 +48,7 @@ fn take_back_plain(objects: &mut Objects<PlainWords>, note: PlainNote) -> Found
 /// Makes an object with two references, closes both, takes a note back, and sweeps the object. Tells
 /// whether the note found it dead.
 fn is_dead_then_swept(objects: &mut Objects<PlainWords>, name: &Name) -> bool
-    requires place { length objects.old.rows < length objects.old.words.own }
+    requires place { next_place objects.old.reuse objects.old.rows objects.old.made < length objects.old.words.own }
     requires few_out { length objects.old.words.out < 64 }
     requires few_made { objects.old.words.made < 4294967295 }
 {
@@ -69,11 +71,22 @@ fn is_dead_then_swept(objects: &mut Objects<PlainWords>, name: &Name) -> bool
 #[test]
 fn a_name_is_free_after_the_sweep(rt: HostRuntime) -> Result<(), Fail> {
     let words = PlainWords::new(rt.alloc(), 4096)?;
-    let mut objects = Objects::new(rt.alloc(), words)?;
+    let mut objects = Objects::new(rt.alloc(), words, false)?;
     let name = read_name(b"door").ok_or("no name")?;
     assert!(rt; is_dead_then_swept(&mut objects, &name));
     assert_eq!(rt; objects.find(Kind::Mutex, &name), None);
     assert!(rt; objects.row(ObjNo(0)).is_none());
     assert!(rt; !objects.is_taken(Kind::Mutex, &name));
+    assert_eq!(rt; objects.next(), 1);
+    Ok(())
+}
+
+#[test]
+fn a_number_is_used_again(rt: HostRuntime) -> Result<(), Fail> {
+    let words = PlainWords::new(rt.alloc(), 4096)?;
+    let mut objects = Objects::new(rt.alloc(), words, true)?;
+    let name = read_name(b"door").ok_or("no name")?;
+    assert!(rt; is_dead_then_swept(&mut objects, &name));
+    assert_eq!(rt; objects.next(), 0);
     Ok(())
 }

@@ -1,5 +1,5 @@
 -- What is kept of the table by each change of its rows and lists.
-use Rattle.std.proofs.Common.{◌≡◌, ◌≢◌, ℕ, ◌<◌, ◌^◌, true, false, List, [], ◌∷◌, ◌++◌, length, set, get_or, replicate, refl, sym, ap, ◌∙◌, arith, inl, inr, get_or-set_same, get_or-set_other, length-set}
+use Rattle.std.proofs.Common.{◌≡◌, ◌≢◌, ℕ, zero, suc, ◌<◌, ◌^◌, true, false, List, [], ◌∷◌, ◌++◌, length, set, get_or, replicate, refl, sym, ap, ◌∙◌, arith, inl, inr, get_or-set_same, get_or-set_other, length-set}
 use Rattle.std.specs.Prelude.{Option, Some, None, is_some, slice_get, IfSome}
 use Rattle.std.specs.List.{list_any}
 use Rattle.std.proofs.lemmas.Bool.{cases_eq, cases_lt}
@@ -12,7 +12,7 @@ use Rattle.links.proofs.Marks.{listed_from}
 use Rattle.state_rows.specs.declared.servers.ServerRow.{ServerRow}
 use Rattle.state_rows.specs.declared.servers.SessionRow.{SessionRow}
 use Rattle.state_rows.specs.ServerRows.{link_of, holds}
-use Rattle.state_rows.specs.ServerChanges.{new_session, detached, after_add_session, after_detach}
+use Rattle.state_rows.specs.ServerChanges.{new_session, detached, after_add_session, after_detach, after_sweep}
 use Rattle.server_table.specs.Kept.{AreKept, object, link_at, rows_of, sessions_of}
 use Rattle.server_table.proofs.Numbers.{holds_last, holds_before, holds_gone, holds_rest, listed_at, replicated, stands_at}
 use Rattle.server_table.proofs.Sessions.{holds_at_server, session_added, session_left}
@@ -227,3 +227,15 @@ pub rows_left : (servers : List (Option ServerRow)) (sessions : List (Option Ses
     (with_list links server.0 (nodes.without s.0 (list_at links server.0)))
     ≡ after_detach (rows_of servers sessions links) s
 rows_left servers sessions links s server row at link = rw (at, link, session_left links.lists server.0 s) refl
+
+-- and once an object is swept to which none is linked
+list_empty : {A : Type 0} (lists : List (List A)) (o : ℕ) → get_or lists o [] ≡ [] → set lists o [] ≡ lists
+list_empty [] zero none = refl
+list_empty [] (suc o) none = refl
+list_empty (list ∷ lists) zero none = ap (λ l. l ∷ lists) (sym none)
+list_empty (list ∷ lists) (suc o) none = ap (λ l. list ∷ l) (list_empty lists o none)
+
+pub rows_swept : (servers : List (Option ServerRow)) (sessions : List (Option SessionRow)) (links : Linked) (o : ObjNo)
+    → get_or (sessions_of links.lists) o.0 [] ≡ []
+    → rows_of (set servers o.0 None) (set sessions o.0 None) links ≡ after_sweep (rows_of servers sessions links) o
+rows_swept servers sessions links o none = rw (list_empty (sessions_of links.lists) o.0 none) refl

@@ -2,10 +2,10 @@
 ghost use Rattle.std.specs.Prelude.{◌≡◌, ◌<◌, ◌↔◌, false, [], length, slice_get, IsTrue, IsNone, IsSome, IfOk, IfSome, Some};
 ghost use Rattle.sym_base.specs.declared.number.ObjNo.{ObjNo};
 ghost use Rattle.state_rows.specs.ServerRows.{IsServer, IsSession, server_at, session_at, linked_at, owner_of, is_closing, link_of, server_of, holds};
-ghost use Rattle.state_rows.specs.ServerChanges.{no_rows, IsAlone, after_add_server, after_add_session, after_closing, after_detach, after_set_open};
+ghost use Rattle.state_rows.specs.ServerChanges.{no_rows, IsAlone, after_add_server, after_add_session, after_closing, after_detach, after_set_open, after_sweep, connected};
 
 use links::Links;
-use state_rows::{ServerRow, SessionRow};
+use state_rows::{Connection, ServerRow, SessionRow};
 use std::alloc::Global;
 use std::marker::Model;
 use sym_base::{NoMemory, ObjNo, Slots, ThreadNo};
@@ -79,7 +79,7 @@ impl ServerTable {
             server: Some(server),
             slots,
             client,
-            is_open: false,
+            connection: Connection::New,
         });
         self.links.push_back(server.0 as u32, s.0 as u32);
     }
@@ -175,13 +175,25 @@ impl ServerTable {
         }
     }
 
+    /// An object is no server and no session any more. Nobody is linked to it, and it is linked to nothing.
+    pub fn sweep(&mut self, o: ObjNo)
+        requires object { o.0 < length self.old.servers }
+        requires alone { IsAlone self.old o }
+        ensures { self.new ≡ after_sweep self.old o }
+    {
+        let at = o.0 as usize;
+        self.servers[at] = None;
+        self.sessions[at] = None;
+    }
+
     /// Notes that a session was opened, or that it was closed, and changes nothing else.
     pub fn set_open(&mut self, s: ObjNo, to: bool)
         requires { IsSession self.old s }
         ensures { self.new ≡ after_set_open self.old s to }
     {
         let row = self.row(s);
-        self.sessions[s.0 as usize] = Some(SessionRow { is_open: to, ..row });
+        let connection = connected(to);
+        self.sessions[s.0 as usize] = Some(SessionRow { connection, ..row });
     }
 
     /// The row of a server.
@@ -193,6 +205,17 @@ impl ServerTable {
             Some(row) => row,
             None => unreachable!(),
         }
+    }
+}
+
+/// How far a session is that was opened, or closed.
+fn connected(to: bool) -> Connection
+    ensures { result ≡ connected to }
+{
+    if to {
+        Connection::Open
+    } else {
+        Connection::Closed
     }
 }
 

@@ -1,6 +1,6 @@
 //! A worked example: two sessions of a server are detached in order of making, once it is closing.
 use crate::ServerTable;
-use state_rows::SessionRow;
+use state_rows::{Connection, SessionRow};
 use std::test::Fail;
 use sym_base::{ObjNo, Slots};
 
@@ -27,8 +27,10 @@ fn sessions_go_in_order_of_making(rt: HostRuntime) -> Result<(), Fail> {
         server: None,
         slots: Slots::Own(3),
         client,
-        is_open: true,
+        connection: Connection::Open,
     };
     assert_eq!(rt; table.row(early), row);
+    table.sweep(early);
+    assert!(rt; table.session_at(early).is_none());
     Ok(())
 }

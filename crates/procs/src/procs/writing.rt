@@ -112,6 +112,16 @@ impl Procs {
         }
     }
 
+    /// Sets the place of the object that a thread's find found, and changes nothing else.
+    pub fn set_sought(&mut self, t: ThreadNo, to: u64)
+        requires { IsTrue (is_thread self.old t) }
+        ensures { self.new ≡ with_row self.old t (record (row_of self.old t) { sought = to }) }
+    {
+        if let Some(row) = &mut self.threads[t.0 as usize] {
+            row.sought = to;
+        }
+    }
+
     /// Sets the object that a thread's present instruction uses, or that it uses none, and changes nothing else.
     pub fn set_uses(&mut self, t: ThreadNo, to: Option<ObjNo>)
         requires { IsTrue (is_thread self.old t) }
