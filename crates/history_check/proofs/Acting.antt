@@ -33,15 +33,18 @@ use Rattle.std.specs.Prelude.{◌==◌, is_some, nat_le}
 use Rattle.sym_base.specs.declared.number.ObjNo.{ObjNo}
 
 -- the step of what a thread does
-task-step : (script : Script) (S : State) (t : ObjNo) (keep : Bool) (row : ThreadRow) (what : Task) → (decision_of_task script (keeping keep S) t row what).step ≡ (decision_of_task script S t row what).step
+task-step : (script : Script) (S : State) (t : ObjNo) (keep : Bool) (row : ThreadRow) (what : Task)
+    → (decision_of_task script (keeping keep S) t row what).step ≡ (decision_of_task script S t row what).step
 task-step script S t keep row (task.RunDfc dfc) = refl
 task-step script S t keep row _ = refl
 
-row-step : (script : Script) (S : State) (t : ObjNo) (keep : Bool) (row : Option ThreadRow) (what : Option Task) → (decision_of_row script (keeping keep S) t row what).step ≡ (decision_of_row script S t row what).step
+row-step : (script : Script) (S : State) (t : ObjNo) (keep : Bool) (row : Option ThreadRow) (what : Option Task)
+    → (decision_of_row script (keeping keep S) t row what).step ≡ (decision_of_row script S t row what).step
 row-step script S t keep (Some row) (Some what) = task-step script S t keep row what
 row-step script S t keep _ _ = refl
 
-where-step : (script : Script) (S : State) (t : ObjNo) (keep able : Bool) (what : Option Task) → (decision_where script able (keeping keep S) t what).step ≡ (decision_where script able S t what).step
+where-step : (script : Script) (S : State) (t : ObjNo) (keep able : Bool) (what : Option Task)
+    → (decision_where script able (keeping keep S) t what).step ≡ (decision_where script able S t what).step
 where-step script S t keep false what = refl
 where-step script S t keep true what = row-step script S t keep (thread_of S t) what
 
@@ -49,7 +52,9 @@ act-step : (script : Script) (S : State) (t : ObjNo) (keep : Bool) → (act scri
 unfolding act
 act-step script S t keep = where-step script S t keep (may_act script S t) (task_of script S t)
 
-plan-step : (script : Script) (S : State) (keep : Bool) (found : Option Item) → (decision_by script supervisor (keeping keep S) (immediate_plan script (keeping keep S) found)).step ≡ (decision_by script supervisor S (immediate_plan script S found)).step
+plan-step : (script : Script) (S : State) (keep : Bool) (found : Option Item)
+    → (decision_by script supervisor (keeping keep S) (immediate_plan script (keeping keep S) found)).step
+    ≡ (decision_by script supervisor S (immediate_plan script S found)).step
 plan-step script S keep None = refl
 plan-step script S keep (Some (item.Idfc call)) = refl
 plan-step script S keep (Some (item.Move dfc)) = refl
@@ -62,7 +67,8 @@ interrupt-step : (script : Script) (S : State) (keep : Bool) (k : ℕ) → (inte
 unfolding interrupt
 interrupt-step script S keep k = refl
 
-pub same-step : (script : Script) (S : State) (keep : Bool) (actor : Actor) → (transition script (keeping keep S) actor).outcome.step ≡ (transition script S actor).outcome.step
+pub same-step : (script : Script) (S : State) (keep : Bool) (actor : Actor)
+    → (transition script (keeping keep S) actor).outcome.step ≡ (transition script S actor).outcome.step
 same-step script S keep (Thread t) = act-step script S t keep
 same-step script S keep (Irq k) = interrupt-step script S keep k
 same-step script S keep Idfc = immediate-step script S keep
@@ -81,7 +87,9 @@ or_of false b h none = h
 none-able : (script : Script) (S : State) (t : ObjNo) → thread_of S t ≡ None → is_able script S t ≡ false
 none-able script S t none =
     let task : is_some (task_of script S t) ≡ false = ap (λ (row : Option ThreadRow). is_some (task_of_row script S t row)) none in
-    let ready : is_ready script S t ≡ false = ap (λ (some : Bool). not (is_waiting S t) && not (is_stopped S t) && some) task ∙ and_none (not (is_waiting S t) && not (is_stopped S t)) in
+    let ready : is_ready script S t ≡ false = ap
+    (λ (some : Bool). not (is_waiting S t) && not (is_stopped S t) && some) task
+    ∙ and_none (not (is_waiting S t) && not (is_stopped S t)) in
     by_test {P = is_able script S t ≡ false} (is_able script S t)
     (λ is. let both_are = both (is_ready script S t) _ is in let bad : is_ready script S t ≡ true = both_are.0 in absurd (cc))
     (λ isnt. isnt)
@@ -104,7 +112,9 @@ known-thread script S t rows may = by (thread_of S t) refl
         omega arith
 
 -- and a declared interrupt's number is small
-in_range : (irqs : List IrqBody) (k : ℕ) → list_all (λ (i : IrqBody). nat_le i.number 31 && is_body (Some body.Interrupt) i.body) irqs ≡ true → list_any (λ (i : IrqBody). i.number == k) irqs ≡ true → k ≤ 31
+in_range : (irqs : List IrqBody) (k : ℕ)
+    → list_all (λ (i : IrqBody). nat_le i.number 31 && is_body (Some body.Interrupt) i.body) irqs ≡ true
+    → list_any (λ (i : IrqBody). i.number == k) irqs ≡ true → k ≤ 31
 in_range [] k all found = absurd (cc)
 in_range (irq ∷ irqs) k all found =
     let h = both (nat_le irq.number 31 && is_body (Some body.Interrupt) irq.body) _ all in

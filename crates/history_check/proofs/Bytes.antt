@@ -55,11 +55,15 @@ word_is_line xs = widen word_byte line_byte shown_is_printed xs
 
 pub fields_are_words : (words : List (List ℕ)) → list_all (list_all field_byte) words ≡ true → list_all (list_all word_byte) words ≡ true
 fields_are_words [] all = refl
-fields_are_words (word ∷ words) all = let h = both (list_all field_byte word) (list_all (list_all field_byte) words) all in rw (field_is_word word h.0, fields_are_words words h.1) refl
+fields_are_words (word ∷ words) all =
+    let h = both (list_all field_byte word) (list_all (list_all field_byte) words) all in
+    rw (field_is_word word h.0, fields_are_words words h.1) refl
 
 pub words_are_lines : (words : List (List ℕ)) → list_all (list_all word_byte) words ≡ true → list_all (list_all line_byte) words ≡ true
 words_are_lines [] all = refl
-words_are_lines (word ∷ words) all = let h = both (list_all word_byte word) (list_all (list_all word_byte) words) all in rw (word_is_line word h.0, words_are_lines words h.1) refl
+words_are_lines (word ∷ words) all =
+    let h = both (list_all word_byte word) (list_all (list_all word_byte) words) all in
+    rw (word_is_line word h.0, words_are_lines words h.1) refl
 
 -- a text of such bytes lacks a byte that isn't one
 differs : (p : ℕ → Bool) (c x : ℕ) → p c ≡ false → p x ≡ true → nat_eq x c ≡ false
@@ -71,13 +75,17 @@ free_by p c (x ∷ xs) outside all = let h = both (p x) (list_all p xs) all in r
 
 pub all_free : (p : ℕ → Bool) (c : ℕ) (ps : List (List ℕ)) → p c ≡ false → list_all (list_all p) ps ≡ true → list_all (free c) ps ≡ true
 all_free p c [] outside all = refl
-all_free p c (x ∷ xs) outside all = let h = both (list_all p x) (list_all (list_all p) xs) all in rw (free_by p c x outside h.0, all_free p c xs outside h.1) refl
+all_free p c (x ∷ xs) outside all =
+    let h = both (list_all p x) (list_all (list_all p) xs) all in
+    rw (free_by p c x outside h.0, all_free p c xs outside h.1) refl
 
 -- joined pieces
 preceded_all : (p : ℕ → Bool) (c : ℕ) (ps : List (List ℕ)) → p c ≡ true → list_all (list_all p) ps ≡ true → list_all p (preceded c ps) ≡ true
 unfolding preceded
 preceded_all p c [] at all = refl
-preceded_all p c (x ∷ xs) at all = let h = both (list_all p x) (list_all (list_all p) xs) all in rw at (all_two p x (preceded c xs) h.0 (preceded_all p c xs at h.1))
+preceded_all p c (x ∷ xs) at all =
+    let h = both (list_all p x) (list_all (list_all p) xs) all in
+    rw at (all_two p x (preceded c xs) h.0 (preceded_all p c xs at h.1))
 
 pub joined_all : (p : ℕ → Bool) (c : ℕ) (ps : List (List ℕ)) → p c ≡ true → list_all (list_all p) ps ≡ true → list_all p (joined c ps) ≡ true
 unfolding joined

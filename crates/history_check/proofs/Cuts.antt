@@ -10,7 +10,8 @@ use Rattle.history_check.proofs.Bytes.{free}
 abbrev pub before_cut : List ℕ → List ℕ × List ℕ → List ℕ × List ℕ
 before_cut x parts = (x ++ parts.0, parts.1)
 
-map_front : (b : ℕ) (bs : List ℕ) (found : Option (List ℕ × List ℕ)) → option_map (λ (parts : List ℕ × List ℕ). (b ∷ parts.0, parts.1)) (option_map (before_cut bs) found) ≡ option_map (before_cut (b ∷ bs)) found
+map_front : (b : ℕ) (bs : List ℕ) (found : Option (List ℕ × List ℕ))
+    → option_map (λ (parts : List ℕ × List ℕ). (b ∷ parts.0, parts.1)) (option_map (before_cut bs) found) ≡ option_map (before_cut (b ∷ bs)) found
 map_front b bs None = refl
 map_front b bs (Some parts) = refl
 
@@ -29,7 +30,10 @@ cut_here : (c : ℕ) (rest : List ℕ) → cut_of c (c ∷ rest) ≡ Some ([], r
 cut_here c rest = rw (eq-eqb c c refl) refl
 
 pub cut_first : (c : ℕ) (x rest : List ℕ) → free c x ≡ true → cut_of c (x ++ c ∷ rest) ≡ Some (x, rest)
-cut_first c x rest none = cut_behind c x (c ∷ rest) none ∙ ap (option_map (before_cut x)) (cut_here c rest) ∙ ap (λ (xs : List ℕ). Some (xs, rest)) (append-nil x)
+cut_first c x rest none =
+    cut_behind c x (c ∷ rest) none
+    ∙ ap (option_map (before_cut x)) (cut_here c rest)
+    ∙ ap (λ (xs : List ℕ). Some (xs, rest)) (append-nil x)
 
 -- equal texts are cut equally
 pub record SameParts (x y s t : List ℕ) : Type 0 where

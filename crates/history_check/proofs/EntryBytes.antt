@@ -70,8 +70,12 @@ indexed letters n i shown = rw (numbered letters n shown, decimal_field i) refl
 
 holder_field : (holder : Holder) → list_all field_byte (holder_text holder) ≡ true
 unfolding holder_text
-holder_field (InProcess process index) = joined_all field_byte 46 ((codes "p" ++ decimal process.0) ∷ decimal index ∷ []) refl (indexed (codes "p") process.0 index refl)
-holder_field (InThread thread index) = joined_all field_byte 46 ((codes "t" ++ decimal thread.0) ∷ decimal index ∷ []) refl (indexed (codes "t") thread.0 index refl)
+holder_field (InProcess process index) =
+    joined_all field_byte 46 ((codes "p" ++ decimal process.0) ∷ decimal index ∷ []) refl
+    (indexed (codes "p") process.0 index refl)
+holder_field (InThread thread index) =
+    joined_all field_byte 46 ((codes "t" ++ decimal thread.0) ∷ decimal index ∷ []) refl
+    (indexed (codes "t") thread.0 index refl)
 holder_field (Temp thread) = numbered (codes "tmp") thread.0 refl
 holder_field (Own thread) = numbered (codes "own") thread.0 refl
 holder_field (Link object) = numbered (codes "lnk") object.0 refl
@@ -88,7 +92,8 @@ unfolding lock_text
 lock_field (Object object) = decimal_field object.0
 lock_field (Fast number) = numbered (codes "f") number refl
 
-reference_fields : (sign : List ℕ) (holder : Holder) (n : ℕ) → list_all field_byte sign ≡ true → list_all (list_all field_byte) ((sign ++ holder_text holder) ∷ decimal n ∷ []) ≡ true
+reference_fields : (sign : List ℕ) (holder : Holder) (n : ℕ) → list_all field_byte sign ≡ true
+    → list_all (list_all field_byte) ((sign ++ holder_text holder) ∷ decimal n ∷ []) ≡ true
 reference_fields sign holder n shown = rw (all_two field_byte sign (holder_text holder) shown (holder_field holder), decimal_field n) refl
 
 each_field : (effect : Effect) → list_all (list_all field_byte) (effect_fields effect) ≡ true
@@ -126,4 +131,11 @@ answer_fields (Some number) = rw (signed_field number) refl
 pub entry_bytes : (e : Entry) → IsStep e.step → list_all (list_all word_byte) (entry_words e) ≡ true
 unfolding entry_words
 entry_bytes e known =
-    rw (field_is_word (decimal e.place) (decimal_field e.place), field_is_word (actor_text e.actor) (actor_field e.actor), field_is_word (step_text e.step) (step_field e.step known), list_all-append (list_all word_byte) (map effect_text e.effects) (answer_words e.answer), effect_words e.effects, fields_are_words (answer_words e.answer) (answer_fields e.answer)) refl
+    rw (
+      field_is_word (decimal e.place) (decimal_field e.place),
+      field_is_word (actor_text e.actor) (actor_field e.actor),
+      field_is_word (step_text e.step) (step_field e.step known),
+      list_all-append (list_all word_byte) (map effect_text e.effects) (answer_words e.answer),
+      effect_words e.effects,
+      fields_are_words (answer_words e.answer) (answer_fields e.answer),
+    ) refl

@@ -63,7 +63,9 @@ no_death word shown =
 
 none_among : (words : List (List ℕ)) → list_all (list_all field_byte) words ≡ true → list_any is_death_text words ≡ false
 none_among [] all = refl
-none_among (word ∷ words) all = let h = both (list_all field_byte word) (list_all (list_all field_byte) words) all in rw (no_death word h.0, none_among words h.1) refl
+none_among (word ∷ words) all =
+    let h = both (list_all field_byte word) (list_all (list_all field_byte) words) all in
+    rw (no_death word h.0, none_among words h.1) refl
 
 -- an effect's text is that of a death if the effect is one
 death_of : (effect : Effect) → is_death_text (effect_text effect) ≡ is_death effect
@@ -83,14 +85,19 @@ death_of (Terminated server) = refl
 death_of (Doom thread) = refl
 death_of (Bury thread) = refl
 
-deaths_of : (effects : List Effect) (words : List (List ℕ)) → list_any is_death_text words ≡ false → list_any is_death_text (map effect_text effects ++ words) ≡ list_any is_death effects
+deaths_of : (effects : List Effect) (words : List (List ℕ)) → list_any is_death_text words ≡ false
+    → list_any is_death_text (map effect_text effects ++ words) ≡ list_any is_death effects
 deaths_of [] words none = none
 deaths_of (effect ∷ effects) words none = rw (death_of effect, deaths_of effects words none) refl
 
 told_words : (e : Entry) → IsStep e.step → list_any is_death_text (entry_words e) ≡ list_any is_death e.effects
 unfolding entry_words
 told_words e known =
-    rw (no_death (decimal e.place) (decimal_field e.place), no_death (actor_text e.actor) (actor_field e.actor), no_death (step_text e.step) (step_field e.step known))
+    rw (
+      no_death (decimal e.place) (decimal_field e.place),
+      no_death (actor_text e.actor) (actor_field e.actor),
+      no_death (step_text e.step) (step_field e.step known),
+    )
     (deaths_of e.effects (answer_words e.answer) (none_among (answer_words e.answer) (answer_fields e.answer)))
 
 -- so a line tells of a death exactly if its entry does

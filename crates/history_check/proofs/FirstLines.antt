@@ -18,7 +18,8 @@ map_none None = refl
 map_none (Some a) = refl
 
 -- the first line of a text, and those behind it
-pub line_first : (line rest : List ℕ) (n : ℕ) → free 10 line ≡ true → first_lines (suc n) (line ++ 10 ∷ rest) ≡ option_map (λ more. line ++ 10 ∷ more) (first_lines n rest)
+pub line_first : (line rest : List ℕ) (n : ℕ) → free 10 line ≡ true
+    → first_lines (suc n) (line ++ 10 ∷ rest) ≡ option_map (λ more. line ++ 10 ∷ more) (first_lines n rest)
 line_first [] rest n none = refl
 line_first (b ∷ bs) rest n none =
     let h = both (not (nat_eq b 10)) (free 10 bs) none in
@@ -40,13 +41,18 @@ pub record IsFront (lines : ℕ) (front : List ℕ) : Type 0 where
 pub front_none : IsFront 0 []
 front_none = record { behind = λ (n : ℕ) (rest : List ℕ). (let h : 0 + n ≡ n = omega arith in rw h (sym (map_none (first_lines n rest)))) }
 
-map_both : (one other : List ℕ) (x : Option (List ℕ)) → option_map (λ more. one ++ more) (option_map (λ more. other ++ more) x) ≡ option_map (λ more. (one ++ other) ++ more) x
+map_both : (one other : List ℕ) (x : Option (List ℕ))
+    → option_map (λ more. one ++ more) (option_map (λ more. other ++ more) x) ≡ option_map (λ more. (one ++ other) ++ more) x
 map_both one other None = refl
 map_both one other (Some more) = ap Some (sym (append_assoc one other more))
 
-map_line : (words line : List ℕ) (x : Option (List ℕ)) → line ≡ words ++ 10 ∷ [] → option_map (λ more. words ++ 10 ∷ more) x ≡ option_map (λ more. line ++ more) x
+map_line : (words line : List ℕ) (x : Option (List ℕ)) → line ≡ words ++ 10 ∷ []
+    → option_map (λ more. words ++ 10 ∷ more) x ≡ option_map (λ more. line ++ more) x
 map_line words line None same = refl
-map_line words line (Some more) same = let h : words ++ 10 ∷ more ≡ line ++ more = sym (append_assoc words (10 ∷ []) more) ∙ ap (λ (xs : List ℕ). xs ++ more) (sym same) in ap Some h
+map_line words line (Some more) same =
+    let h : words ++ 10 ∷ more ≡ line ++ more = sym (append_assoc words (10 ∷ []) more)
+    ∙ ap (λ (xs : List ℕ). xs ++ more) (sym same) in
+    ap Some h
 
 pub front_one : (line : List ℕ) → IsLine line → IsFront 1 line
 front_one line is = record {
@@ -69,7 +75,8 @@ pub front_all : {A : Type 0} (text : A → List ℕ) (xs : List A) → AllByRecu
 front_all text [] known = front_none
 front_all text (x ∷ xs) known =
     let count : 1 + length xs ≡ suc (length xs) = omega arith in
-    subst (λ (n : ℕ). IsFront n (text x ++ flat_map text xs)) count (front_both 1 (length xs) (text x) (flat_map text xs) (front_one (text x) known.0) (front_all text xs known.1))
+    subst (λ (n : ℕ). IsFront n (text x ++ flat_map text xs)) count
+    (front_both 1 (length xs) (text x) (flat_map text xs) (front_one (text x) known.0) (front_all text xs known.1))
 
 -- what an option was before it was mapped
 record IsMapped (g : List ℕ → List ℕ) (x : Option (List ℕ)) (mapped : List ℕ) : Type 0 where
@@ -88,7 +95,9 @@ pub record IsShorter (text front : List ℕ) (lines : ℕ) : Type 0 where
   pub rest : List ℕ
   pub whole : front ≡ shorter ++ rest
 
-one_shorter : (b : ℕ) (bs before front : List ℕ) (m k : ℕ) → front ≡ b ∷ before → first_lines (suc m) (b ∷ bs) ≡ option_map (λ more. b ∷ more) (first_lines k bs) → IsShorter bs before k → IsShorter (b ∷ bs) front (suc m)
+one_shorter : (b : ℕ) (bs before front : List ℕ) (m k : ℕ) → front ≡ b ∷ before
+    → first_lines (suc m) (b ∷ bs) ≡ option_map (λ more. b ∷ more) (first_lines k bs) → IsShorter bs before k
+    → IsShorter (b ∷ bs) front (suc m)
 one_shorter b bs before front m k same step less = record {
   shorter = b ∷ less.shorter;
   is = step ∙ ap (option_map (λ more. b ∷ more)) less.is;
@@ -97,7 +106,9 @@ one_shorter b bs before front m k same step less = record {
 }
 
 -- by whether the first byte is a line feed
-fewer_by : (b : ℕ) (bs front : List ℕ) (m n : ℕ) (test : Bool) → nat_eq b 10 ≡ test → m ≤ n → first_lines (suc n) (b ∷ bs) ≡ Some front → ((f : List ℕ) (i j : ℕ) → i ≤ j → first_lines j bs ≡ Some f → IsShorter bs f i) → IsShorter (b ∷ bs) front (suc m)
+fewer_by : (b : ℕ) (bs front : List ℕ) (m n : ℕ) (test : Bool) → nat_eq b 10 ≡ test → m ≤ n
+    → first_lines (suc n) (b ∷ bs) ≡ Some front
+    → ((f : List ℕ) (i j : ℕ) → i ≤ j → first_lines j bs ≡ Some f → IsShorter bs f i) → IsShorter (b ∷ bs) front (suc m)
 fewer_by b bs front m n true test few is later =
     let at = mapped_from (λ more. b ∷ more) (first_lines n bs) front (rw test at is) in
     one_shorter b bs at.before front m m at.same (rw test refl) (later at.before m n few at.is)
@@ -117,14 +128,22 @@ pub record IsCutOff (lines : ℕ) (text front : List ℕ) : Type 0 where
   pub whole : text ≡ front ++ rest
   pub again : (more : List ℕ) → first_lines lines (front ++ more) ≡ Some front
 
-one_cut : (b : ℕ) (bs before front : List ℕ) (n k : ℕ) → front ≡ b ∷ before → ((xs : List ℕ) → first_lines (suc n) (b ∷ xs) ≡ option_map (λ more. b ∷ more) (first_lines k xs)) → IsCutOff k bs before → IsCutOff (suc n) (b ∷ bs) front
+one_cut : (b : ℕ) (bs before front : List ℕ) (n k : ℕ) → front ≡ b ∷ before
+    → ((xs : List ℕ) → first_lines (suc n) (b ∷ xs) ≡ option_map (λ more. b ∷ more) (first_lines k xs))
+    → IsCutOff k bs before → IsCutOff (suc n) (b ∷ bs) front
 one_cut b bs before front n k same step less = record {
   rest = less.rest;
   whole = ap (λ more. b ∷ more) less.whole ∙ ap (λ (xs : List ℕ). xs ++ less.rest) (sym same);
-  again = λ more. ap (λ (xs : List ℕ). first_lines (suc n) (xs ++ more)) same ∙ step (before ++ more) ∙ ap (option_map (λ xs. b ∷ xs)) (less.again more) ∙ ap Some (sym same);
+  again =
+      λ more. ap (λ (xs : List ℕ). first_lines (suc n) (xs ++ more)) same
+      ∙ step (before ++ more)
+      ∙ ap (option_map (λ xs. b ∷ xs)) (less.again more)
+      ∙ ap Some (sym same);
 }
 
-cut_by : (b : ℕ) (bs front : List ℕ) (n : ℕ) (test : Bool) → nat_eq b 10 ≡ test → first_lines (suc n) (b ∷ bs) ≡ Some front → ((f : List ℕ) (k : ℕ) → first_lines k bs ≡ Some f → IsCutOff k bs f) → IsCutOff (suc n) (b ∷ bs) front
+cut_by : (b : ℕ) (bs front : List ℕ) (n : ℕ) (test : Bool) → nat_eq b 10 ≡ test
+    → first_lines (suc n) (b ∷ bs) ≡ Some front → ((f : List ℕ) (k : ℕ) → first_lines k bs ≡ Some f → IsCutOff k bs f)
+    → IsCutOff (suc n) (b ∷ bs) front
 cut_by b bs front n true test is later =
     let at = mapped_from (λ more. b ∷ more) (first_lines n bs) front (rw test at is) in
     one_cut b bs at.before front n n at.same (λ xs. rw test refl) (later at.before n at.is)
@@ -150,7 +169,8 @@ pub record IsOneMore (front rest whole : List ℕ) : Type 0 where
   pub behind : List ℕ
   pub same : whole ≡ front ++ (line ++ behind)
 
-pub one_more : (lines : ℕ) (front rest all whole : List ℕ) → IsFront lines front → first_lines (lines + 1) (front ++ rest) ≡ Some all → Begins whole all → IsOneMore front rest whole
+pub one_more : (lines : ℕ) (front rest all whole : List ℕ) → IsFront lines front
+    → first_lines (lines + 1) (front ++ rest) ≡ Some all → Begins whole all → IsOneMore front rest whole
 one_more lines front rest all whole is are begins =
     let at = mapped_from (λ more. front ++ more) (first_lines 1 rest) all (sym (is.behind 1 rest) ∙ are) in
     record {
@@ -169,7 +189,9 @@ same_line rest line known behind more first is same =
     record { rest = cut.rest; whole = cut.whole ∙ ap (λ (xs : List ℕ). xs ++ cut.rest) one }
 
 -- so with no other line does a text go on
-pub goes_nowhere : (lines : ℕ) (front rest all known more whole : List ℕ) → IsFront lines front → first_lines (lines + 1) (front ++ rest) ≡ Some all → Begins whole all → whole ≡ front ++ (known ++ more) → IsLine known → (Begins rest known → ⊥) → ⊥
+pub goes_nowhere : (lines : ℕ) (front rest all known more whole : List ℕ) → IsFront lines front
+    → first_lines (lines + 1) (front ++ rest) ≡ Some all → Begins whole all → whole ≡ front ++ (known ++ more)
+    → IsLine known → (Begins rest known → ⊥) → ⊥
 goes_nowhere lines front rest all known more whole is are begins same line other =
     let one = one_more lines front rest all whole is are begins in
     let both_are : one.line ++ one.behind ≡ known ++ more = append_cancel_left front _ _ (sym one.same ∙ same) in

@@ -37,10 +37,13 @@ goes_fewer script text m n few on =
     }
 
 -- a front of so many lines of a history's text
-pub goes_on : (script : Script) (history : List Entry) (lines : ℕ) (text front rest more : List ℕ) → IsFront lines front → IsInReach script history → text ≡ front ++ rest → shared_text script history ≡ front ++ more → GoesOn script text lines
+pub goes_on : (script : Script) (history : List Entry) (lines : ℕ) (text front rest more : List ℕ) → IsFront lines front
+    → IsInReach script history → text ≡ front ++ rest → shared_text script history ≡ front ++ more
+    → GoesOn script text lines
 goes_on script history lines text front rest more is reach text_is whole =
     let count : lines + 0 ≡ lines = omega arith in
-    let are : first_lines lines text ≡ Some front = ap (λ (n : ℕ). first_lines n text) (sym count) ∙ ap (first_lines (lines + 0)) text_is ∙ is.behind 0 rest ∙ ap Some (append-nil front) in
+    let are : first_lines lines text ≡ Some front = ap (λ (n : ℕ). first_lines n text) (sym count)
+    ∙ ap (first_lines (lines + 0)) text_is ∙ is.behind 0 rest ∙ ap Some (append-nil front) in
     record { front = front; are = are; history = history; reach = reach; begins = record { rest = more; whole = whole } }
 
 -- the line of an entry
@@ -70,9 +73,12 @@ reach_of script history text rest so = record { shared = so.shared; few = so.few
 -- the text of a history, by lines
 pub rows_text : (rows : List FinalRow) → as_text (row_lines rows) ≡ flat_map final_line rows ++ codes "end\n"
 rows_text [] = refl
-rows_text (row ∷ rows) = ap (λ (text : List ℕ). final_line row ++ text) (rows_text rows) ∙ sym (append_assoc (final_line row) (flat_map final_line rows) (codes "end\n"))
+rows_text (row ∷ rows) =
+    ap (λ (text : List ℕ). final_line row ++ text) (rows_text rows)
+    ∙ sym (append_assoc (final_line row) (flat_map final_line rows) (codes "end\n"))
 
-pub by_lines : (history : List Entry) (rows : List FinalRow) → history_text history rows ≡ flat_map entry_line history ++ (codes "objects\n" ++ as_text (row_lines rows))
+pub by_lines : (history : List Entry) (rows : List FinalRow)
+    → history_text history rows ≡ flat_map entry_line history ++ (codes "objects\n" ++ as_text (row_lines rows))
 unfolding history_text
 by_lines history rows =
     append_assoc (flat_map entry_line history ++ codes "objects\n") (flat_map final_line rows) (codes "end\n")
@@ -98,19 +104,27 @@ has_first (b ∷ bs) more = first_by b (bs ++ 10 ∷ more) (nat_eq b 10) refl (h
 
 -- a text that goes on behind these lines is that of a history that goes on behind this one
 module _ (script : Script) (es : List Entry) (text rest : List ℕ) (valid : IsWellFormed script) (so : IsSoFar script es text rest) where
-  pub begun : (history : List Entry) (s : List ℕ) → IsShared script history → shared_text script history ≡ flat_map entry_line es ++ s → GoesBehind es history s (final_rows (after_in true script history))
-  begun history s shared same = begins_with script (boot_in true script) 1 es history s (final_rows (after_in true script history)) valid (rows-boot true script valid) so.known so.shared shared (sym same)
+  pub begun : (history : List Entry) (s : List ℕ) → IsShared script history
+      → shared_text script history ≡ flat_map entry_line es ++ s
+      → GoesBehind es history s (final_rows (after_in true script history))
+  begun history s shared same =
+      begins_with script (boot_in true script) 1 es history s (final_rows (after_in true script history)) valid
+      (rows-boot true script valid) so.known so.shared shared (sym same)
 
   -- it is this one, if the line `objects` stands there
-  pub ended : (history : List Entry) (u : List ℕ) → IsShared script history → shared_text script history ≡ flat_map entry_line es ++ (codes "objects\n" ++ u) → history ≡ es
+  pub ended : (history : List Entry) (u : List ℕ) → IsShared script history
+      → shared_text script history ≡ flat_map entry_line es ++ (codes "objects\n" ++ u) → history ≡ es
   ended history u shared same = let b = begun history (codes "objects\n" ++ u) shared same in by b.behind b.same b.text
     where
-      by : (behind : List Entry) → history ≡ es ++ behind → codes "objects\n" ++ u ≡ history_text behind (final_rows (after_in true script history)) → history ≡ es
+      by : (behind : List Entry) → history ≡ es ++ behind
+          → codes "objects\n" ++ u ≡ history_text behind (final_rows (after_in true script history)) → history ≡ es
       by [] is text_is = is ∙ append-nil es
-      by (e ∷ more) is text_is = absurd (no_objects e (history_text more (final_rows (after_in true script history))) u (sym (text_is ∙ after_first e more (final_rows (after_in true script history)))))
+      by (e ∷ more) is text_is = absurd (no_objects e (history_text more (final_rows (after_in true script history))) u
+          (sym (text_is ∙ after_first e more (final_rows (after_in true script history)))))
 
   -- an entry behind it may stand next
-  next_of : (history : List Entry) (e : Entry) (more : List Entry) → IsShared script history → history ≡ es ++ e ∷ more → IsNext script (after_in true script es) (length es + 1) e
+  next_of : (history : List Entry) (e : Entry) (more : List Entry) → IsShared script history → history ≡ es ++ e ∷ more
+      → IsNext script (after_in true script es) (length es + 1) e
   next_of history e more shared is =
       let legal = legal_behind script (boot_in true script) 1 es (e ∷ more) (subst (IsShared script) is shared) in
       subst (λ (n : ℕ). IsNext script (after_in true script es) n e) (omega arith) legal.0
@@ -125,19 +139,30 @@ module _ (script : Script) (es : List Entry) (text rest : List ℕ) (valid : IsW
   goes_so_far = goes_on script es (length es) text (flat_map entry_line es) rest _ (entries_front es so.known) reach so.text_is so_text
 
   -- if neither the line `objects` stands there, nor that of an entry that may stand next
-  module _ (no_end : Begins rest (codes "objects\n") → ⊥) (nowhere : (e : Entry) (later : List Entry) (more : List ℕ) → IsNext script (after_in true script es) (length es + 1) e → length es + suc (length later) ≤ 131072 → HaveOneFirst rest (entry_line e ++ more) → ⊥) where
-    few_behind : (history : List Entry) (e : Entry) (later : List Entry) → length history ≤ 131072 → history ≡ es ++ e ∷ later → length es + suc (length later) ≤ 131072
+  module _ (no_end : Begins rest (codes "objects\n") → ⊥)
+      (nowhere : (e : Entry) (later : List Entry) (more : List ℕ)
+      → IsNext script (after_in true script es) (length es + 1) e → length es + suc (length later) ≤ 131072
+      → HaveOneFirst rest (entry_line e ++ more) → ⊥) where
+    few_behind : (history : List Entry) (e : Entry) (later : List Entry) → length history ≤ 131072
+        → history ≡ es ++ e ∷ later → length es + suc (length later) ≤ 131072
     few_behind history e later few is = omega (arith, ap length is, length-append es (e ∷ later))
 
-    bad_behind : (history : List Entry) (line behind : List ℕ) → IsInReach script history → first_lines 1 rest ≡ Some line → shared_text script history ≡ flat_map entry_line es ++ (line ++ behind) → ⊥
+    bad_behind : (history : List Entry) (line behind : List ℕ) → IsInReach script history
+        → first_lines 1 rest ≡ Some line → shared_text script history ≡ flat_map entry_line es ++ (line ++ behind) → ⊥
     bad_behind history line behind within first same = let b = begun history (line ++ behind) within.shared same in by b.behind b.same b.text
       where
         by : (later : List Entry) → history ≡ es ++ later → line ++ behind ≡ history_text later (final_rows (after_in true script history)) → ⊥
-        by [] is text_is = no_end (same_line rest line (codes "objects\n") behind _ first objects_is_line (text_is ∙ by_lines [] (final_rows (after_in true script history))))
+        by [] is text_is = no_end (same_line rest line (codes "objects\n") behind _ first objects_is_line
+            (text_is ∙ by_lines [] (final_rows (after_in true script history))))
         by (e ∷ later) is text_is =
             let more = history_text later (final_rows (after_in true script history)) in
             let lines = text_is ∙ after_first e later (final_rows (after_in true script history)) in
-            nowhere e later more (next_of history e later within.shared is) (few_behind history e later within.few is) (record { line = line; first = first; too = ap (first_lines 1) (sym lines) ∙ (lines_cut rest line 1 first).again behind })
+            nowhere e later more (next_of history e later within.shared is) (few_behind history e later within.few is)
+            (record {
+              line = line;
+              first = first;
+              too = ap (first_lines 1) (sym lines) ∙ (lines_cut rest line 1 first).again behind;
+            })
 
     bad_next : GoesOn script text (length es + 1) → ⊥
     bad_next on =
@@ -149,13 +174,18 @@ module _ (script : Script) (es : List Entry) (text rest : List ℕ) (valid : IsW
     bad_text checks = let b = begun checks.history rest checks.is.reach.shared (sym checks.is.same ∙ so.text_is) in by b.behind b.same b.text
       where
         by : (later : List Entry) → checks.history ≡ es ++ later → rest ≡ history_text later (final_rows (after_in true script checks.history)) → ⊥
-        by [] is text_is = no_end (record { rest = as_text (row_lines (final_rows (after_in true script checks.history))); whole = text_is ∙ by_lines [] (final_rows (after_in true script checks.history)) })
+        by [] is text_is = no_end (record {
+          rest = as_text (row_lines (final_rows (after_in true script checks.history)));
+          whole = text_is ∙ by_lines [] (final_rows (after_in true script checks.history));
+        })
         by (e ∷ later) is text_is =
             let more = history_text later (final_rows (after_in true script checks.history)) in
             let lines = text_is ∙ after_first e later (final_rows (after_in true script checks.history)) in
             let first = has_first (body e) more in
             let here : first_lines 1 (entry_line e ++ more) ≡ Some first.line = ap (first_lines 1) (line_more e more) ∙ first.first in
-            nowhere e later more (next_of checks.history e later checks.is.reach.shared is) (few_behind checks.history e later checks.is.reach.few is) (record { line = first.line; first = ap (first_lines 1) lines ∙ here; too = here })
+            nowhere e later more (next_of checks.history e later checks.is.reach.shared is)
+            (few_behind checks.history e later checks.is.reach.few is)
+            (record { line = first.line; first = ap (first_lines 1) lines ∙ here; too = here })
 
     pub illegal_next : IsIllegalText script text (length es + 1)
     illegal_next = record {

@@ -34,7 +34,8 @@ joined_again : (text : List ℕ) → joined 10 (lines_of text) ≡ text
 joined_again [] = joined_nothing
 joined_again (b ∷ bs) =
     by_test {P = joined 10 (lines_of (b ∷ bs)) ≡ b ∷ bs} (nat_eq b 10)
-    (λ e. rw e (joined_behind (lines_of bs) (split_some 10 bs) ∙ ap (λ (xs : List ℕ). 10 ∷ xs) (joined_again bs) ∙ ap (λ (x : ℕ). x ∷ bs) (sym (same_feed b e))))
+    (λ e. rw e (joined_behind (lines_of bs) (split_some 10 bs) ∙ ap (λ (xs : List ℕ). 10 ∷ xs) (joined_again bs)
+    ∙ ap (λ (x : ℕ). x ∷ bs) (sym (same_feed b e))))
     (λ e. rw e (joined_front b (lines_of bs) (split_some 10 bs) ∙ ap (λ (xs : List ℕ). b ∷ xs) (joined_again bs)))
 
 -- the parts of a line with more lines behind it
@@ -42,7 +43,8 @@ to_more : (line : List ℕ) (lines : List (List ℕ)) → (lines ≡ [] → ⊥)
 to_more line [] some = absurd (some refl)
 to_more line (next ∷ lines) some = refl
 
-behind_more : (line : List ℕ) (lines : List (List ℕ)) → (lines ≡ [] → ⊥) → behind_end (line ∷ lines) ≡ (if is_end line then joined 10 lines else behind_end lines)
+behind_more : (line : List ℕ) (lines : List (List ℕ)) → (lines ≡ [] → ⊥)
+    → behind_end (line ∷ lines) ≡ (if is_end line then joined 10 lines else behind_end lines)
 behind_more line [] some = absurd (some refl)
 behind_more line (next ∷ lines) some = refl
 
@@ -64,13 +66,20 @@ joined_line part (next ∷ parts) some = refl
 text_cut : (text line behind : List ℕ) → Some (line, behind) ≡ cut_of 10 text → text ≡ line ++ 10 ∷ behind
 text_cut text line behind cut =
     let lines = split_cut 10 text line behind (sym cut) in
-    sym (joined_again text) ∙ ap (joined 10) lines ∙ joined_line line (lines_of behind) (split_some 10 behind) ∙ ap (λ (xs : List ℕ). line ++ 10 ∷ xs) (joined_again behind)
+    sym (joined_again text)
+    ∙ ap (joined 10) lines
+    ∙ joined_line line (lines_of behind) (split_some 10 behind)
+    ∙ ap (λ (xs : List ℕ). line ++ 10 ∷ xs) (joined_again behind)
 
-script_cut : (text line behind : List ℕ) → Some (line, behind) ≡ cut_of 10 text → script_part text ≡ line ++ 10 ∷ (if is_end line then [] else script_part behind)
+script_cut : (text line behind : List ℕ) → Some (line, behind) ≡ cut_of 10 text
+    → script_part text ≡ line ++ 10 ∷ (if is_end line then [] else script_part behind)
 script_cut text line behind cut = ap to_end (split_cut 10 text line behind (sym cut)) ∙ to_more line (lines_of behind) (split_some 10 behind)
 
 history_cut : (text line behind : List ℕ) → Some (line, behind) ≡ cut_of 10 text → history_part text ≡ (if is_end line then behind else history_part behind)
-history_cut text line behind cut = ap behind_end (split_cut 10 text line behind (sym cut)) ∙ behind_more line (lines_of behind) (split_some 10 behind) ∙ ap (λ (xs : List ℕ). if is_end line then xs else history_part behind) (joined_again behind)
+history_cut text line behind cut =
+    ap behind_end (split_cut 10 text line behind (sym cut))
+    ∙ behind_more line (lines_of behind) (split_some 10 behind)
+    ∙ ap (λ (xs : List ℕ). if is_end line then xs else history_part behind) (joined_again behind)
 
 -- at the line `end`
 pub record AreParts (input behind : List ℕ) : Type 0 where
@@ -83,19 +92,24 @@ parted_end input rest line behind so cut is =
     let script : script_part rest ≡ line ++ 10 ∷ [] = rw is at (script_cut rest line behind cut) in
     let history : history_part rest ≡ behind = rw is at (history_cut rest line behind cut) in
     let front : script_part input ≡ so.before ++ (line ++ 10 ∷ []) = so.script ∙ ap (λ (xs : List ℕ). so.before ++ xs) script in
-    let again : (so.before ++ (line ++ 10 ∷ [])) ++ behind ≡ so.before ++ (line ++ 10 ∷ behind) = append_assoc so.before (line ++ 10 ∷ []) behind ∙ ap (λ (xs : List ℕ). so.before ++ xs) (append_assoc line (10 ∷ []) behind) in
+    let again : (so.before ++ (line ++ 10 ∷ [])) ++ behind ≡ so.before ++ (line ++ 10 ∷ behind) =
+    append_assoc so.before (line ++ 10 ∷ []) behind
+    ∙ ap (λ (xs : List ℕ). so.before ++ xs) (append_assoc line (10 ∷ []) behind) in
     record {
       script = so.whole ∙ ap (λ (xs : List ℕ). so.before ++ xs) text ∙ sym again ∙ ap (λ (xs : List ℕ). xs ++ behind) (sym front);
       history = sym history ∙ sym so.history;
     }
 
 -- at another line
-pub parted_more : (input rest line behind : List ℕ) → IsPartedSo input rest → Some (line, behind) ≡ cut_of 10 rest → is_end line ≡ false → IsPartedSo input behind
+pub parted_more : (input rest line behind : List ℕ) → IsPartedSo input rest → Some (line, behind) ≡ cut_of 10 rest
+    → is_end line ≡ false → IsPartedSo input behind
 parted_more input rest line behind so cut isnt =
     let text = text_cut rest line behind cut in
     let script : script_part rest ≡ line ++ 10 ∷ script_part behind = rw isnt at (script_cut rest line behind cut) in
     let history : history_part rest ≡ history_part behind = rw isnt at (history_cut rest line behind cut) in
-    let again : (more : List ℕ) → so.before ++ (line ++ 10 ∷ more) ≡ (so.before ++ (line ++ 10 ∷ [])) ++ more = λ more. ap (λ (xs : List ℕ). so.before ++ xs) (sym (append_assoc line (10 ∷ []) more)) ∙ sym (append_assoc so.before (line ++ 10 ∷ []) more) in
+    let again : (more : List ℕ) → so.before ++ (line ++ 10 ∷ more) ≡ (so.before ++ (line ++ 10 ∷ [])) ++ more =
+    λ more. ap (λ (xs : List ℕ). so.before ++ xs) (sym (append_assoc line (10 ∷ []) more))
+    ∙ sym (append_assoc so.before (line ++ 10 ∷ []) more) in
     record {
       before = so.before ++ (line ++ 10 ∷ []);
       whole = so.whole ∙ ap (λ (xs : List ℕ). so.before ++ xs) text ∙ again behind;

@@ -19,7 +19,8 @@ pub record IsAmong (number n size : ℕ) : Type 0 where
 among_later : (number n size : ℕ) → IsAmong number (n + 1) size → IsAmong number n (suc size)
 among_later number n size h = record { below = omega arith; some = omega arith }
 
-row_among : (S : State) (n : ℕ) (objects : List (Option ObjectRow)) (row : FinalRow) (rest : List FinalRow) → rows_of S n objects ≡ row ∷ rest → IsAmong row.object.0 n (length objects)
+row_among : (S : State) (n : ℕ) (objects : List (Option ObjectRow)) (row : FinalRow) (rest : List FinalRow)
+    → rows_of S n objects ≡ row ∷ rest → IsAmong row.object.0 n (length objects)
 row_among S n [] row rest e = cc
 row_among S n (None ∷ objects) row rest e = among_later row.object.0 n (length objects) (row_among S (n + 1) objects row rest e)
 row_among S n (Some object ∷ objects) row rest e =
@@ -28,7 +29,9 @@ row_among S n (Some object ∷ objects) row rest e =
     record { below = omega arith; some = omega arith }
 
 -- so it is below 4,096
-pub row_number : (shared : Bool) (script : Script) (history : List Entry) (n : ℕ) (row : FinalRow) (rest : List FinalRow) → IsWellFormed script → rows_from (after_in shared script history) n ≡ row ∷ rest → row.object.0 < 4096
+pub row_number : (shared : Bool) (script : Script) (history : List Entry) (n : ℕ) (row : FinalRow)
+    (rest : List FinalRow)
+    → IsWellFormed script → rows_from (after_in shared script history) n ≡ row ∷ rest → row.object.0 < 4096
 row_number shared script history n row rest valid e =
     let among = row_among (after_in shared script history) n (drop n (after_in shared script history).references.objects) row rest e in
     let few = (well_formed-after shared script history valid).rows.references.sized.objects_few in
@@ -41,4 +44,9 @@ length-rows S n (None ∷ objects) = omega (arith, length-rows S (n + 1) objects
 length-rows S n (Some object ∷ objects) = omega (arith, length-rows S (n + 1) objects)
 
 pub few_rows : (shared : Bool) (script : Script) (history : List Entry) → IsWellFormed script → length (final_rows (after_in shared script history)) ≤ 4096
-few_rows shared script history valid = omega (arith, length-rows (after_in shared script history) 0 (after_in shared script history).references.objects, (well_formed-after shared script history valid).rows.references.sized.objects_few)
+few_rows shared script history valid =
+    omega (
+      arith,
+      length-rows (after_in shared script history) 0 (after_in shared script history).references.objects,
+      (well_formed-after shared script history valid).rows.references.sized.objects_few,
+    )

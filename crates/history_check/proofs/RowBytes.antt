@@ -42,12 +42,22 @@ life_fields kind exit known = refl
 
 row_fields : (row : FinalRow) → list_all name_byte row.name ≡ true → HasCategory row.exit → list_all (list_all field_byte) (final_words row) ≡ true
 unfolding final_words
-row_fields row name exit = rw (decimal_field row.object.0, kind_field row.kind, shown_field row.name name, decimal_field row.count, life_fields row.kind row.exit exit) refl
+row_fields row name exit =
+    rw (
+      decimal_field row.object.0,
+      kind_field row.kind,
+      shown_field row.name name,
+      decimal_field row.count,
+      life_fields row.kind row.exit exit,
+    ) refl
 
 pub row_is_line : (row : FinalRow) → list_all name_byte row.name ≡ true → HasCategory row.exit → IsLine (final_line row)
 unfolding final_line
 row_is_line row name exit = record {
   words = joined 32 (final_words row);
   same = refl;
-  one = free_by line_byte 10 (joined 32 (final_words row)) refl (joined_all line_byte 32 (final_words row) refl (words_are_lines (final_words row) (fields_are_words (final_words row) (row_fields row name exit))));
+  one =
+      free_by line_byte 10 (joined 32 (final_words row)) refl
+      (joined_all line_byte 32 (final_words row) refl
+      (words_are_lines (final_words row) (fields_are_words (final_words row) (row_fields row name exit))));
 }

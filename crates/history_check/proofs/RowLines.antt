@@ -42,10 +42,12 @@ module _ (script : Script) (es : List Entry) (text left : List ℕ) (valid : IsW
 
   front_up : (before : List (List ℕ)) → AllByRecursion IsLine before → IsFront (length es + (1 + length before)) (up_to before)
   front_up before known = front_both (length es) (1 + length before) (flat_map entry_line es) (codes "objects\n" ++ as_text before) (entries_front es so.known)
-      (front_both 1 (length before) (codes "objects\n") (as_text before) (front_one (codes "objects\n") objects_is_line) (front_all (λ (line : List ℕ). line) before known))
+      (front_both 1 (length before) (codes "objects\n") (as_text before) (front_one (codes "objects\n") objects_is_line)
+      (front_all (λ (line : List ℕ). line) before known))
 
   -- a history whose text begins so is this one
-  is_this : (history : List Entry) (before : List (List ℕ)) (more : List ℕ) → IsShared script history → shared_text script history ≡ up_to before ++ more → history ≡ es
+  is_this : (history : List Entry) (before : List (List ℕ)) (more : List ℕ) → IsShared script history
+      → shared_text script history ≡ up_to before ++ more → history ≡ es
   is_this history before more shared same =
       ended script es text (codes "objects\n" ++ left) valid so history (as_text before ++ more) shared (same ∙ sym (behind_up before more))
 
@@ -53,7 +55,9 @@ module _ (script : Script) (es : List Entry) (text left : List ℕ) (valid : IsW
   checked_is checks =
       let same : shared_text script checks.history ≡ flat_map entry_line es ++ (codes "objects\n" ++ left) = sym checks.is.same ∙ so.text_is in
       let this = ended script es text (codes "objects\n" ++ left) valid so checks.history left checks.is.reach.shared same in
-      let texts : flat_map entry_line es ++ (codes "objects\n" ++ left) ≡ flat_map entry_line es ++ (codes "objects\n" ++ as_text lines) = sym same ∙ ap (shared_text script) this ∙ by_lines es (final_rows (after_in true script es)) in
+      let texts : flat_map entry_line es ++ (codes "objects\n" ++ left)
+      ≡ flat_map entry_line es ++ (codes "objects\n" ++ as_text lines) =
+      sym same ∙ ap (shared_text script) this ∙ by_lines es (final_rows (after_in true script es)) in
       append_cancel_left (codes "objects\n") _ _ (append_cancel_left (flat_map entry_line es) _ _ texts)
 
   -- its whole text
@@ -66,20 +70,30 @@ module _ (script : Script) (es : List Entry) (text left : List ℕ) (valid : IsW
   -- one of its lines isn't there
   module _ (good : ℕ) (bad : IsBadLine lines left good) where
     at_line : GoesOn script text (length es + (1 + length bad.before))
-    at_line = goes_on script es (length es + (1 + length bad.before)) text (up_to bad.before) bad.rest (as_text (bad.line ∷ bad.behind)) (front_up bad.before bad.known) reach (text_up bad.before bad.rest bad.text_is) (whole_up bad.before (bad.line ∷ bad.behind) bad.lines_are)
+    at_line =
+        goes_on script es (length es + (1 + length bad.before)) text (up_to bad.before) bad.rest
+        (as_text (bad.line ∷ bad.behind)) (front_up bad.before bad.known) reach (text_up bad.before bad.rest bad.text_is)
+        (whole_up bad.before (bad.line ∷ bad.behind) bad.lines_are)
 
     past_line : GoesOn script text (length es + (1 + length bad.before) + 1) → ⊥
     past_line on =
         let n = length es + (1 + length bad.before) in
-        let are : first_lines (n + 1) (up_to bad.before ++ bad.rest) ≡ Some on.front = ap (first_lines (n + 1)) (sym (text_up bad.before bad.rest bad.text_is)) ∙ on.are in
+        let are : first_lines (n + 1) (up_to bad.before ++ bad.rest) ≡ Some on.front =
+        ap (first_lines (n + 1)) (sym (text_up bad.before bad.rest bad.text_is)) ∙ on.are in
         let one = one_more n (up_to bad.before) bad.rest on.front (shared_text script on.history) (front_up bad.before bad.known) are on.begins in
         let this = is_this on.history bad.before (one.line ++ one.behind) on.reach.shared one.same in
-        let whole : shared_text script on.history ≡ up_to bad.before ++ (bad.line ++ as_text bad.behind) = ap (shared_text script) this ∙ whole_up bad.before (bad.line ∷ bad.behind) bad.lines_are in
-        goes_nowhere n (up_to bad.before) bad.rest on.front bad.line (as_text bad.behind) (shared_text script on.history) (front_up bad.before bad.known) are on.begins whole bad.is bad.other
+        let whole : shared_text script on.history ≡ up_to bad.before ++ (bad.line ++ as_text bad.behind) =
+        ap (shared_text script) this ∙ whole_up bad.before (bad.line ∷ bad.behind) bad.lines_are in
+        goes_nowhere n (up_to bad.before) bad.rest on.front bad.line (as_text bad.behind)
+        (shared_text script on.history) (front_up bad.before bad.known) are on.begins whole bad.is bad.other
 
     no_line : Checks script text → ⊥
     no_line checks =
-        let texts : as_text bad.before ++ bad.rest ≡ as_text bad.before ++ as_text (bad.line ∷ bad.behind) = sym bad.text_is ∙ checked_is checks ∙ ap as_text bad.lines_are ∙ text_append bad.before (bad.line ∷ bad.behind) in
+        let texts : as_text bad.before ++ bad.rest ≡ as_text bad.before ++ as_text (bad.line ∷ bad.behind) =
+        sym bad.text_is
+        ∙ checked_is checks
+        ∙ ap as_text bad.lines_are
+        ∙ text_append bad.before (bad.line ∷ bad.behind) in
         bad.other (record { rest = as_text bad.behind; whole = append_cancel_left (as_text bad.before) _ _ texts })
 
     illegal_line : IsIllegalText script text (length es + (1 + length bad.before) + 1)
@@ -103,12 +117,15 @@ module _ (script : Script) (es : List Entry) (text left : List ℕ) (valid : IsW
     whole_lines = whole_up lines [] (sym (append-nil lines))
 
     at_end : GoesOn script text (length es + (1 + length lines))
-    at_end = goes_on script es (length es + (1 + length lines)) text (up_to lines) (bad.byte ∷ bad.rest) [] (front_up lines bad.known) reach (text_up lines (bad.byte ∷ bad.rest) bad.text_is) whole_lines
+    at_end =
+        goes_on script es (length es + (1 + length lines)) text (up_to lines) (bad.byte ∷ bad.rest) []
+        (front_up lines bad.known) reach (text_up lines (bad.byte ∷ bad.rest) bad.text_is) whole_lines
 
     past_end : GoesOn script text (length es + (1 + length lines) + 1) → ⊥
     past_end on =
         let n = length es + (1 + length lines) in
-        let are : first_lines (n + 1) (up_to lines ++ bad.byte ∷ bad.rest) ≡ Some on.front = ap (first_lines (n + 1)) (sym (text_up lines (bad.byte ∷ bad.rest) bad.text_is)) ∙ on.are in
+        let are : first_lines (n + 1) (up_to lines ++ bad.byte ∷ bad.rest) ≡ Some on.front =
+        ap (first_lines (n + 1)) (sym (text_up lines (bad.byte ∷ bad.rest) bad.text_is)) ∙ on.are in
         let one = one_more n (up_to lines) (bad.byte ∷ bad.rest) on.front (shared_text script on.history) (front_up lines bad.known) are on.begins in
         let this = is_this on.history lines (one.line ++ one.behind) on.reach.shared one.same in
         let texts : up_to lines ++ (one.line ++ one.behind) ≡ up_to lines ++ [] = sym one.same ∙ ap (shared_text script) this ∙ whole_lines in
@@ -131,5 +148,9 @@ module _ (script : Script) (es : List Entry) (text left : List ℕ) (valid : IsW
   illegal_end line bad = by bad.good bad.number bad.found
     where
       by : (good : ℕ) → line ≡ length es + 2 + good → IsBadLine lines left good ⊎ IsBadEnd lines left good → IsIllegalText script text line
-      by good number (inl found) = let same : length es + (1 + length found.before) + 1 ≡ line = (let count = found.count in omega arith) in subst (IsIllegalText script text) same (illegal_line good found)
-      by good number (inr found) = let same : length es + (1 + length lines) + 1 ≡ line = (let count = found.count in omega arith) in subst (IsIllegalText script text) same (illegal_past good found)
+      by good number (inl found) = let same : length es + (1 + length found.before) + 1
+          ≡ line = (let count = found.count in omega arith) in
+          subst (IsIllegalText script text) same (illegal_line good found)
+      by good number (inr found) = let same : length es + (1 + length lines) + 1
+          ≡ line = (let count = found.count in omega arith) in
+          subst (IsIllegalText script text) same (illegal_past good found)

@@ -39,7 +39,8 @@ pub record IsFirstCut (text line : List ℕ) : Type 0 where
   pub cut : cut_of 10 text ≡ Some (words, rest)
   pub same : line ≡ words ++ 10 ∷ []
 
-one_by : (b : ℕ) (bs line : List ℕ) (test : Bool) → nat_eq b 10 ≡ test → first_lines 1 (b ∷ bs) ≡ Some line → ((l : List ℕ) → first_lines 1 bs ≡ Some l → IsFirstCut bs l) → IsFirstCut (b ∷ bs) line
+one_by : (b : ℕ) (bs line : List ℕ) (test : Bool) → nat_eq b 10 ≡ test → first_lines 1 (b ∷ bs) ≡ Some line
+    → ((l : List ℕ) → first_lines 1 bs ≡ Some l → IsFirstCut bs l) → IsFirstCut (b ∷ bs) line
 one_by b bs line true test first later =
     let feed : b ≡ 10 = eqb-true b 10 test in
     let one : Some (b ∷ []) ≡ Some line = rw test at first in
@@ -68,7 +69,8 @@ head_free : (e : Entry) → free 10 (head e) ≡ true
 head_free e =
     let placed = free_by field_byte 10 (decimal e.place) refl (decimal_field e.place) in
     let actor = free_by field_byte 10 (actor_text e.actor) refl (actor_field e.actor) in
-    all_two (λ b. not (nat_eq b 10)) (decimal e.place) (32 ∷ (actor_text e.actor ++ 32 ∷ [])) placed (all_two (λ b. not (nat_eq b 10)) (actor_text e.actor) (32 ∷ []) actor refl)
+    all_two (λ b. not (nat_eq b 10)) (decimal e.place) (32 ∷ (actor_text e.actor ++ 32 ∷ [])) placed
+    (all_two (λ b. not (nat_eq b 10)) (actor_text e.actor) (32 ∷ []) actor refl)
 
 head_more : (e : Entry) (more : List ℕ) → head e ++ more ≡ decimal e.place ++ 32 ∷ (actor_text e.actor ++ 32 ∷ more)
 head_more e more =
@@ -83,7 +85,8 @@ module _ (text line rest : List ℕ) (e : Entry) (more : List ℕ) (cut : Some (
       let same : line ≡ at.words = append_cancel_right line at.words (10 ∷ []) words in
       let tail = behind_actor e ++ 10 ∷ more in
       let headed : entry_line e ++ more ≡ head e ++ tail = line_head e more ∙ sym (head_more e tail) in
-      let cuts : option_map (before_cut (head e)) (cut_of 10 tail) ≡ Some (at.words, at.rest) = sym (cut_behind 10 (head e) tail (head_free e)) ∙ ap (cut_of 10) (sym headed) ∙ at.cut in
+      let cuts : option_map (before_cut (head e)) (cut_of 10 tail) ≡ Some (at.words, at.rest) =
+      sym (cut_behind 10 (head e) tail (head_free e)) ∙ ap (cut_of 10) (sym headed) ∙ at.cut in
       let found = map_some (before_cut (head e)) (cut_of 10 tail) (at.words, at.rest) cuts in
       let front : head e ++ found.0.0 ≡ at.words = ap (λ (p : List ℕ × List ℕ). p.0) found.2 in
       record { known = known; place = e.place; rest = found.0.0; same = same ∙ sym front ∙ head_more e found.0.0 }
@@ -97,7 +100,10 @@ module _ (text line rest : List ℕ) (e : Entry) (more : List ℕ) (cut : Some (
 
 -- no entry may stand next with which the text goes on: where it has no line
 pub no_line : (script : Script) (history : List Entry) (text : List ℕ) → None ≡ cut_of 10 text → GoesNowhere script history text
-no_line script history text none e more next one = let at = first_cut text one.line one.first in let clash : ◌≡◌ {A = Option (List ℕ × List ℕ)} None (Some (at.words, at.rest)) = none ∙ at.cut in absurd (cc)
+no_line script history text none e more next one =
+    let at = first_cut text one.line one.first in
+    let clash : ◌≡◌ {A = Option (List ℕ × List ℕ)} None (Some (at.words, at.rest)) = none ∙ at.cut in
+    absurd (cc)
 
 module _ (script : Script) (history : List Entry) (text line rest : List ℕ) (valid : IsWellFormed script) (cut : Some (line, rest) ≡ cut_of 10 text) where
   abbrev S : State
@@ -106,7 +112,9 @@ module _ (script : Script) (history : List Entry) (text line rest : List ℕ) (v
   may : (e : Entry) → IsNext script S (length history + 1) e → IsActor e.actor
   may e next = known_actor script S e.actor valid (well_formed-after true script history valid).rows next.able
 
-  told_actor : (told : Option Actor) → ((actor : Actor) → IsOfActor line actor → told ≡ Some actor) → (e : Entry) (more : List ℕ) → IsNext script S (length history + 1) e → HaveOneFirst text (entry_line e ++ more) → told ≡ Some e.actor
+  told_actor : (told : Option Actor) → ((actor : Actor) → IsOfActor line actor → told ≡ Some actor)
+      → (e : Entry) (more : List ℕ) → IsNext script S (length history + 1) e → HaveOneFirst text (entry_line e ++ more)
+      → told ≡ Some e.actor
   told_actor told tells e more next one = tells e.actor (of_actor text line rest e more cut one (may e next))
 
   -- where its line tells no actor
@@ -114,23 +122,33 @@ module _ (script : Script) (history : List Entry) (text line rest : List ℕ) (v
   no_actor tells e more next one = let clash : ◌≡◌ {A = Option Actor} None (Some e.actor) = told_actor None tells e more next one in absurd (cc)
 
   -- where its actor may not act
-  not_legal : (actor : Actor) → ((other : Actor) → IsOfActor line other → Some actor ≡ Some other) → (CanAct script S actor → ⊥) → GoesNowhere script history text
+  not_legal : (actor : Actor) → ((other : Actor) → IsOfActor line other → Some actor ≡ Some other)
+      → (CanAct script S actor → ⊥) → GoesNowhere script history text
   not_legal actor tells cannot e more next one =
       let same : actor ≡ e.actor = some_is actor e.actor (told_actor (Some actor) tells e more next one) in
       cannot (subst (CanAct script S) (sym same) next.able)
 
   -- and where it doesn't begin with the line of the entry that its actor makes
-  other_entry : (actor : Actor) (made : Entry) (told : Bool) → ((other : Actor) → IsOfActor line other → Some actor ≡ Some other) → told ≡ tells_death line → made ≡ entry_by script (keeping (not told) S) (length history + 1) actor → IsStep made.step → (Begins text (entry_line made) → ⊥) → GoesNowhere script history text
+  other_entry : (actor : Actor) (made : Entry) (told : Bool)
+      → ((other : Actor) → IsOfActor line other → Some actor ≡ Some other) → told ≡ tells_death line
+      → made ≡ entry_by script (keeping (not told) S) (length history + 1) actor → IsStep made.step
+      → (Begins text (entry_line made) → ⊥) → GoesNowhere script history text
   other_entry actor made told tells death by named other e more next one =
-      let is : made ≡ entry_by script (keeping (not (tells_death line)) S) (length history + 1) actor = by ∙ ap (λ (b : Bool). entry_by script (keeping (not b) S) (length history + 1) actor) death in
+      let is : made ≡ entry_by script (keeping (not (tells_death line)) S) (length history + 1) actor =
+      by ∙ ap (λ (b : Bool). entry_by script (keeping (not b) S) (length history + 1) actor) death in
       let same : actor ≡ e.actor = some_is actor e.actor (told_actor (Some actor) tells e more next one) in
-      let made_step : made.step ≡ (transition script S actor).outcome.step = ap (λ (x : Entry). x.step) is ∙ same-step script S (not (tells_death line)) actor in
-      let step : made.step ≡ e.step = made_step ∙ ap (λ (a : Actor). (transition script S a).outcome.step) same ∙ sym (next-step script S (length history + 1) e next) in
+      let made_step : made.step ≡ (transition script S actor).outcome.step =
+      ap (λ (x : Entry). x.step) is ∙ same-step script S (not (tells_death line)) actor in
+      let step : made.step ≡ e.step = made_step ∙ ap (λ (a : Actor). (transition script S a).outcome.step) same
+      ∙ sym (next-step script S (length history + 1) e next) in
       let e_named : IsStep e.step = subst IsStep step named in
       let words = own_words text line rest e more cut one e_named in
       let choice : is_deathless e.effects ≡ not (tells_death line) = deathless-told e e_named ∙ ap (λ (text : List ℕ). not (tells_death text)) (sym words) in
-      let chosen : choosing e S ≡ keeping (not (tells_death line)) S = choosing-shared S e (shared-after script (boot_in true script) history) ∙ ap (λ (b : Bool). keeping b S) choice in
-      let entry : e ≡ made = next.told ∙ ap (λ (T : State). entry_by script T (length history + 1) e.actor) chosen ∙ ap (λ (a : Actor). entry_by script (keeping (not (tells_death line)) S) (length history + 1) a) (sym same) ∙ sym is in
+      let chosen : choosing e S ≡ keeping (not (tells_death line)) S =
+      choosing-shared S e (shared-after script (boot_in true script) history) ∙ ap (λ (b : Bool). keeping b S) choice in
+      let entry : e ≡ made = next.told ∙ ap (λ (T : State). entry_by script T (length history + 1) e.actor) chosen
+      ∙ ap (λ (a : Actor). entry_by script (keeping (not (tells_death line)) S) (length history + 1) a) (sym same)
+      ∙ sym is in
       let here = lines_cut text one.line 1 one.first in
       let begins : one.line ≡ entry_line made = own_line text line rest e more cut one e_named ∙ ap entry_line entry in
       other (record { rest = here.rest; whole = here.whole ∙ ap (λ (xs : List ℕ). xs ++ here.rest) begins })

@@ -34,7 +34,9 @@ blank_is [] = refl
 blank_is (b ∷ bs) =
     by_test {P = list_all (λ b. nat_eq b 32) (b ∷ bs) ≡ is_empty (words_of (b ∷ bs))} (nat_eq b 32)
     (λ e. rw e (blank_is bs))
-    (λ e. let first = begins_line b bs e in ap (λ (test : Bool). test && list_all (λ b. nat_eq b 32) bs) e ∙ ap (λ (words : List (List ℕ)). is_empty words) (sym first.2))
+    (λ e. let first = begins_line b bs e in
+    ap (λ (test : Bool). test && list_all (λ b. nat_eq b 32) bs) e
+    ∙ ap (λ (words : List (List ℕ)). is_empty words) (sym first.2))
 
 -- whether there is one, `end`
 and_true : (b : Bool) → b ≡ (b && true)
@@ -58,12 +60,18 @@ none_of [] none = refl
 none_of (b ∷ bs) none = absurd (omega arith)
 
 pub end_behind : (rest word behind : List ℕ) → Some (word, behind) ≡ cut_of 32 rest → length word ≡ 0 → is_end behind ≡ is_end rest
-end_behind rest word behind cut none = sym (ap are_end (word_cut rest word behind cut ∙ ap (λ (words : List (List ℕ)). words ++ words_of behind) (none_of word none)))
+end_behind rest word behind cut none =
+    sym (ap are_end (word_cut rest word behind cut
+    ∙ ap (λ (words : List (List ℕ)). words ++ words_of behind) (none_of word none)))
 
-end_here : (rest word behind : List ℕ) → Some (word, behind) ≡ cut_of 32 rest → 0 < length word → (bytes_eq word (codes "end") && is_empty (words_of behind)) ≡ is_end rest
-end_here rest word behind cut some = sym (ap are_end (word_cut rest word behind cut ∙ ap (λ (words : List (List ℕ)). words ++ words_of behind) (one_of word some)) ∙ end_front word (words_of behind))
+end_here : (rest word behind : List ℕ) → Some (word, behind) ≡ cut_of 32 rest → 0 < length word
+    → (bytes_eq word (codes "end") && is_empty (words_of behind)) ≡ is_end rest
+end_here rest word behind cut some =
+    sym (ap are_end (word_cut rest word behind cut
+    ∙ ap (λ (words : List (List ℕ)). words ++ words_of behind) (one_of word some)) ∙ end_front word (words_of behind))
 
-pub end_is : (rest word behind : List ℕ) → Some (word, behind) ≡ cut_of 32 rest → 0 < length word → bytes_eq word (codes "end") ≡ true → list_all (λ b. nat_eq b 32) behind ≡ is_end rest
+pub end_is : (rest word behind : List ℕ) → Some (word, behind) ≡ cut_of 32 rest → 0 < length word
+    → bytes_eq word (codes "end") ≡ true → list_all (λ b. nat_eq b 32) behind ≡ is_end rest
 end_is rest word behind cut some is = blank_is behind ∙ sym (ap (λ (b : Bool). b && is_empty (words_of behind)) is) ∙ end_here rest word behind cut some
 
 pub end_isnt : (rest word behind : List ℕ) → Some (word, behind) ≡ cut_of 32 rest → 0 < length word → bytes_eq word (codes "end") ≡ false → false ≡ is_end rest

@@ -21,8 +21,11 @@ abbrev pub with_move : Script → ObjNo → Move → State → Course → Course
 with_move script t m S c = record { effects = c.effects ++ told m S; ready = arrive script (moved t m S) (touched t m) (taken_out m c.ready) }
 
 -- moves behind one
-course_moved : (script : Script) (t : ObjNo) (m : Move) (later : List Move) (S : State) (c : Course) → course_after script t later (moved t m S) (with_move script t m S c) ≡ course_after script t (m ∷ later) S c
-course_moved script t m later S c = let behind = tell t later (moved t m S) in ap (course (arrivals script t (m ∷ later) S c.ready)) (append_assoc c.effects (told m S) behind)
+course_moved : (script : Script) (t : ObjNo) (m : Move) (later : List Move) (S : State) (c : Course)
+    → course_after script t later (moved t m S) (with_move script t m S c) ≡ course_after script t (m ∷ later) S c
+course_moved script t m later S c =
+    let behind = tell t later (moved t m S) in
+    ap (course (arrivals script t (m ∷ later) S c.ready)) (append_assoc c.effects (told m S) behind)
   where
     course : List ObjNo → List Effect → Course
     course ready effects = record { effects = effects; ready = ready }
@@ -32,18 +35,23 @@ pub perform_both : (t : ObjNo) (xs ys : List Move) (S : State) → perform t ys 
 perform_both t [] ys S = refl
 perform_both t (m ∷ xs) ys S = perform_both t xs ys (moved t m S)
 
-pub course_both : (script : Script) (t : ObjNo) (xs ys : List Move) (S : State) (c : Course) → course_after script t ys (perform t xs S) (course_after script t xs S c) ≡ course_after script t (xs ++ ys) S c
+pub course_both : (script : Script) (t : ObjNo) (xs ys : List Move) (S : State) (c : Course)
+    → course_after script t ys (perform t xs S) (course_after script t xs S c) ≡ course_after script t (xs ++ ys) S c
 course_both script t [] ys S c = ap (course (arrivals script t ys S c.ready)) (ap (λ (es : List Effect). es ++ tell t ys S) (append-nil c.effects))
   where
     course : List ObjNo → List Effect → Course
     course ready effects = record { effects = effects; ready = ready }
 course_both script t (m ∷ xs) ys S c =
     let T = moved t m S in
-    ap (course_after script t ys (perform t xs T)) (sym (course_moved script t m xs S c)) ∙ course_both script t xs ys T (with_move script t m S c) ∙ course_moved script t m (xs ++ ys) S c
+    ap (course_after script t ys (perform t xs T)) (sym (course_moved script t m xs S c))
+    ∙ course_both script t xs ys T (with_move script t m S c)
+    ∙ course_moved script t m (xs ++ ys) S c
 
 pub room_performed : (t : ObjNo) (moves : List Move) (n : ℕ) (S : State) → HasRoom (length moves + n) S → HasRoom n (perform t moves S)
 room_performed t [] n S room = subst (λ (k : ℕ). HasRoom k S) (omega arith) room
-room_performed t (m ∷ moves) n S room = room_performed t moves n (moved t m S) (room_moved t m (length moves + n) S (subst (λ (k : ℕ). HasRoom k S) (omega arith) room))
+room_performed t (m ∷ moves) n S room =
+    room_performed t moves n (moved t m S) (room_moved t m (length moves + n) S
+    (subst (λ (k : ℕ). HasRoom k S) (omega arith) room))
 
 pub small_performed : (t : ObjNo) (moves : List Move) (n : ℕ) (S : State) → HasRoom (length moves + n) S → IsSmall S → IsSmall (perform t moves S)
 small_performed t [] n S room small = small
@@ -61,7 +69,8 @@ pub record IsUnderWay (script : Script) (t : ObjNo) (end : State) (whole : Cours
 
 -- several moves more
 pub goes_on : (script : Script) (t : ObjNo) (end : State) (whole : Course) (moves later : List Move) (n : ℕ) (S : State) (now : Course)
-    → IsUnderWay script t end whole (moves ++ later) (length moves + n) S now → IsUnderWay script t end whole later n (perform t moves S) (course_after script t moves S now)
+    → IsUnderWay script t end whole (moves ++ later) (length moves + n) S now
+    → IsUnderWay script t end whole later n (perform t moves S) (course_after script t moves S now)
 goes_on script t end whole moves later n S now way = record {
   rows = perform_both t moves later S ∙ way.rows;
   course = course_both script t moves later S now ∙ way.course;
@@ -84,7 +93,8 @@ item_here : {A : Type 0} (xs : List A) (i : ℕ) (x : A) → i < length xs → x
 item_here xs i x inside is = rw (add-one, drop-cons xs i x) (ap (λ y. y ∷ drop (suc i) xs) (sym is))
 
 -- what the whole tells has room
-pub whole_few : (script : Script) (t : ObjNo) (moves : List Move) (S : State) (c : Course) → length c.effects + length (tell t moves S) ≤ 4 → length (course_after script t moves S c).effects ≤ 4
+pub whole_few : (script : Script) (t : ObjNo) (moves : List Move) (S : State) (c : Course)
+    → length c.effects + length (tell t moves S) ≤ 4 → length (course_after script t moves S c).effects ≤ 4
 whole_few script t moves S c few = let long = length-append c.effects (tell t moves S) in omega arith
 
 -- the operations of a body that are left begin with this one, which makes two moves at most
@@ -94,36 +104,52 @@ pub op_here : (script : Script) (t : ObjNo) (end : State) (whole : Course) (ops 
     → IsUnderWay script t end whole (moves ++ ops_moves script t (perform t moves S) (drop (i + 1) ops)) (length moves + 2 * length (drop (i + 1) ops)) S now
 op_here script t end whole ops i op made moves S now inside is same by few way =
     let rest = drop (i + 1) ops in
-    let all : IsUnderWay script t end whole (ops_moves script t S (op ∷ rest)) (2 * length (op ∷ rest)) S now = subst (λ (l : List Op). IsUnderWay script t end whole (ops_moves script t S l) (2 * length l) S now) (item_here ops i op inside is) way in
+    let all : IsUnderWay script t end whole (ops_moves script t S (op ∷ rest)) (2 * length (op ∷ rest)) S now =
+    subst (λ (l : List Op). IsUnderWay script t end whole (ops_moves script t S l) (2 * length l) S now)
+    (item_here ops i op inside is) way in
     let before : IsUnderWay script t end whole (moves ++ ops_moves script t (perform t moves S) rest) (2 * length (op ∷ rest)) S now
-    = subst (λ (ms : List Move). IsUnderWay script t end whole (ms ++ ops_moves script t (perform t ms S) rest) (2 * length (op ∷ rest)) S now) (sym (same ∙ by)) all in
+    = subst (λ (ms : List Move). IsUnderWay script t end whole (ms ++ ops_moves script t (perform t ms S) rest)
+    (2 * length (op ∷ rest)) S now) (sym (same ∙ by)) all in
     let long = ap (λ (ms : List Move). length ms) same in
-    record { rows = before.rows; course = before.course; room = room_less (length moves + 2 * length rest) (2 * length (op ∷ rest)) S (omega arith) before.room; small = before.small }
+    record {
+      rows = before.rows;
+      course = before.course;
+      room = room_less (length moves + 2 * length rest) (2 * length (op ∷ rest)) S (omega arith) before.room;
+      small = before.small;
+    }
 
 -- the same behind it, of what is made in between
 pub ops_go_on : (script : Script) (t : ObjNo) (end : State) (whole : Course) (rest : List Op) (moves : List Move) (S T : State) (now later : Course)
-    → IsUnderWay script t end whole (moves ++ ops_moves script t (perform t moves S) rest) (length moves + 2 * length rest) S now → T ≡ perform t moves S → later ≡ course_after script t moves S now
+    → IsUnderWay script t end whole (moves ++ ops_moves script t (perform t moves S) rest)
+    (length moves + 2 * length rest) S now → T ≡ perform t moves S → later ≡ course_after script t moves S now
     → IsUnderWay script t end whole (ops_moves script t T rest) (2 * length rest) T later
 ops_go_on script t end whole rest moves S T now later way new told =
     let behind = goes_on script t end whole moves (ops_moves script t (perform t moves S) rest) (2 * length rest) S now way in
     subst (λ (s : State). IsUnderWay script t end whole (ops_moves script t s rest) (2 * length rest) s later) (sym new)
-    (subst (λ (c : Course). IsUnderWay script t end whole (ops_moves script t (perform t moves S) rest) (2 * length rest) (perform t moves S) c) (sym told) behind)
+    (subst (λ (c : Course). IsUnderWay script t end whole (ops_moves script t (perform t moves S) rest)
+    (2 * length rest) (perform t moves S) c) (sym told) behind)
 
 -- there is room for a body behind the leave of its queue
-pub room_for_body : (t : ObjNo) (leave : List Move) (S T : State) (ops : List Op) → length leave ≤ 1 → length ops ≤ 4 → HasRoom 9 S → T ≡ perform t leave S → HasRoom (2 * length ops) T
-room_for_body t leave S T ops few short room is = subst (HasRoom (2 * length ops)) (sym is) (room_performed t leave (2 * length ops) S (room_less (length leave + 2 * length ops) 9 S (omega arith) room))
+pub room_for_body : (t : ObjNo) (leave : List Move) (S T : State) (ops : List Op) → length leave ≤ 1 → length ops ≤ 4
+    → HasRoom 9 S → T ≡ perform t leave S → HasRoom (2 * length ops) T
+room_for_body t leave S T ops few short room is =
+    subst (HasRoom (2 * length ops)) (sym is)
+    (room_performed t leave (2 * length ops) S (room_less (length leave + 2 * length ops) 9 S (omega arith) room))
 
 -- the moves that are left begin with this one
 pub move_here : (script : Script) (t : ObjNo) (end : State) (whole : Course) (moves : List Move) (i : ℕ) (m : Move) (S : State) (now : Course)
     → i < length moves → m ≡ get_or moves i m → IsUnderWay script t end whole (drop i moves) (length (drop i moves)) S now
     → IsUnderWay script t end whole ((m ∷ []) ++ drop (i + 1) moves) (length (m ∷ []) + length (drop (i + 1) moves)) S now
 move_here script t end whole moves i m S now inside is way =
-    let all : IsUnderWay script t end whole (m ∷ drop (i + 1) moves) (length (m ∷ drop (i + 1) moves)) S now = subst (λ (l : List Move). IsUnderWay script t end whole l (length l) S now) (item_here moves i m inside is) way in
+    let all : IsUnderWay script t end whole (m ∷ drop (i + 1) moves) (length (m ∷ drop (i + 1) moves)) S now =
+    subst (λ (l : List Move). IsUnderWay script t end whole l (length l) S now) (item_here moves i m inside is) way in
     record { rows = all.rows; course = all.course; room = subst (λ (n : ℕ). HasRoom n S) (omega arith) all.room; small = all.small }
 
 -- what it tells has room
-pub move_tells : (script : Script) (t : ObjNo) (end : State) (whole : Course) (m : Move) (later : List Move) (n : ℕ) (S : State) (now : Course) (more : List Effect)
-    → IsUnderWay script t end whole ((m ∷ []) ++ later) (length (m ∷ []) + n) S now → length whole.effects ≤ 4 → more ≡ told m S → length now.effects + length more ≤ 4
+pub move_tells : (script : Script) (t : ObjNo) (end : State) (whole : Course) (m : Move) (later : List Move) (n : ℕ)
+    (S : State) (now : Course) (more : List Effect)
+    → IsUnderWay script t end whole ((m ∷ []) ++ later) (length (m ∷ []) + n) S now → length whole.effects ≤ 4
+    → more ≡ told m S → length now.effects + length more ≤ 4
 move_tells script t end whole m later n S now more way few tells =
     let all = tells_few script t end whole (m ∷ []) later n S now way few in
     let same = ap (λ (es : List Effect). length es) tells in
@@ -131,14 +157,21 @@ move_tells script t end whole m later n S now more way few tells =
     omega arith
 
 -- the state and the course behind it, of what is made in between
-pub move_goes_on : (script : Script) (t : ObjNo) (end : State) (whole : Course) (m : Move) (later : List Move) (n : ℕ) (S T : State) (now : Course) (effects more : List Effect) (out ready touches : List ObjNo)
+pub move_goes_on : (script : Script) (t : ObjNo) (end : State) (whole : Course) (m : Move) (later : List Move) (n : ℕ)
+    (S T : State) (now : Course) (effects more : List Effect) (out ready touches : List ObjNo)
     → IsUnderWay script t end whole ((m ∷ []) ++ later) (length (m ∷ []) + n) S now
-    → T ≡ moved t m S → effects ≡ now.effects ++ more → more ≡ told m S → out ≡ taken_out m now.ready → ready ≡ arrive script T touches out → touches ≡ touched t m
+    → T ≡ moved t m S → effects ≡ now.effects ++ more → more ≡ told m S → out ≡ taken_out m now.ready
+    → ready ≡ arrive script T touches out → touches ≡ touched t m
     → IsUnderWay script t end whole later n T (record { effects = effects; ready = ready })
 move_goes_on script t end whole m later n S T now effects more out ready touches way new added tells leaves arrived by =
     let behind = goes_on script t end whole (m ∷ []) later n S now way in
     let effects_now : effects ≡ now.effects ++ (told m S ++ []) = added ∙ ap (λ (es : List Effect). now.effects ++ es) (tells ∙ sym (append-nil (told m S))) in
-    let ready_now : ready ≡ arrive script (moved t m S) (touched t m) (taken_out m now.ready) = arrived ∙ ap (λ (ts : List ObjNo). arrive script T ts out) by ∙ ap (λ (s : State). arrive script s (touched t m) out) new ∙ ap (arrive script (moved t m S) (touched t m)) leaves in
+    let ready_now : ready ≡ arrive script (moved t m S) (touched t m) (taken_out m now.ready) =
+    arrived
+    ∙ ap (λ (ts : List ObjNo). arrive script T ts out) by
+    ∙ ap (λ (s : State). arrive script s (touched t m) out) new
+    ∙ ap (arrive script (moved t m S) (touched t m)) leaves in
     subst (λ (s : State). IsUnderWay script t end whole later n s (record { effects = effects; ready = ready })) (sym new)
     (subst (λ (es : List Effect). IsUnderWay script t end whole later n (moved t m S) (record { effects = es; ready = ready })) (sym effects_now)
-    (subst (λ (ts : List ObjNo). IsUnderWay script t end whole later n (moved t m S) (record { effects = now.effects ++ (told m S ++ []); ready = ts })) (sym ready_now) behind))
+    (subst (λ (ts : List ObjNo). IsUnderWay script t end whole later n (moved t m S)
+    (record { effects = now.effects ++ (told m S ++ []); ready = ts })) (sym ready_now) behind))

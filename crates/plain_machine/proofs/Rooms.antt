@@ -1,5 +1,5 @@
 -- Room for moves: each takes one away.
-use Rattle.std.proofs.Common.{◌≡◌, ℕ, ◌+◌, ◌≤◌, List, [], ◌∷◌, length, length-append, get_or, arith, refl, ap, sym, ◌∙◌, subst, Bool, true, false, Option, Some, None}
+use Rattle.std.proofs.Common.{◌≡◌, ℕ, ◌+◌, ◌≤◌, List, [], ◌∷◌, length, get_or, arith, refl, ap, sym, ◌∙◌, subst, Bool, true, false, Option, Some, None}
 use Rattle.std.specs.Prelude.{slice_set, option_map}
 use Rattle.std.proofs.lemmas.List.{length-set}
 use Rattle.sym_base.specs.declared.number.ObjNo.{ObjNo}
@@ -7,7 +7,7 @@ use Rattle.entry_log.specs.declared.effect.Holder.{Holder}
 use Rattle.entry_log.specs.declared.effect.Holder.TheVariants as holder
 use Rattle.state_rows.specs.declared.duty.Owed.TheVariants.{Close, Sweep}
 use Rattle.state_rows.specs.declared.object.ObjectRow.{ObjectRow}
-use Rattle.state_rows.specs.ObjectRows.{dead_row}
+use Rattle.state_rows.specs.ObjectRows.{dead_row, place_of}
 use Rattle.machine.specs.declared.death_move.DeathMove.{DeathMove}
 use Rattle.machine.specs.declared.death_move.DeathMove.TheVariants.{Note, Doom, Clean, Bury}
 use Rattle.machine.specs.declared.moves.Move.{Move}
@@ -28,8 +28,9 @@ use Rattle.machine.specs.Handles.{with_slot, taken_slot, freed_slot}
 use Rattle.machine.specs.Moves.{moved, with_use, unlinked, with_found, with_opened, with_missed, with_kept, with_part, with_register, with_message, advanced, with_waiting, with_priority, tables_gain, tables_lose, threads_gain, threads_lose, threads_closed, objects_closed, next_object, new_object}
 use Rattle.machine.specs.Kept.{dies}
 use Rattle.machine.specs.Room.{HasRoom, IsSmallTable, AreSmallTables, MayAdvance}
-use Rattle.machine.specs.Rows.{with_row}
+use Rattle.machine.specs.Rows.{object_of, with_row}
 use Rattle.move_laws.proofs.Lists.Sets.{set_keeps}
+use Rattle.move_laws.proofs.Lives.NewObjects.{made-long, next_number_is}
 use Rattle.move_laws.proofs.MoveLaws.CopyMoves.{copy_accepts}
 use Rattle.move_laws.proofs.RowLaws.Tables.{taken_keeps}
 
@@ -56,8 +57,11 @@ map_goes f goes n (Some old) h row e =
 threads_less : (m n : ℕ) → m ≤ n → (threads : List (Option ThreadRow)) → MayAdvance n threads → MayAdvance m threads
 threads_less m n le threads h k = goes_less m n le (get_or threads k None) (h k)
 
-row_goes : (f : ThreadRow → ThreadRow) → GoesOn f → (n : ℕ) (threads : List (Option ThreadRow)) (t : ObjNo) → MayAdvance (n + 1) threads → MayAdvance n (with_row threads t f)
-row_goes f goes n threads t h = set_keeps (CanGo n) threads t.0 (option_map f (get_or threads t.0 None)) None (map_goes f goes n (get_or threads t.0 None) (h t.0)) (threads_less n (n + 1) (omega arith) threads h)
+row_goes : (f : ThreadRow → ThreadRow) → GoesOn f → (n : ℕ) (threads : List (Option ThreadRow)) (t : ObjNo)
+    → MayAdvance (n + 1) threads → MayAdvance n (with_row threads t f)
+row_goes f goes n threads t h =
+    set_keeps (CanGo n) threads t.0 (option_map f (get_or threads t.0 None)) None
+    (map_goes f goes n (get_or threads t.0 None) (h t.0)) (threads_less n (n + 1) (omega arith) threads h)
 
 -- a change of a slot that leaves its instance small
 abbrev KeepsInstances : (HandleSlot → HandleSlot) → Type 0
@@ -70,14 +74,20 @@ freed_small : KeepsInstances freed_slot
 freed_small slot few = few
 
 -- a change of a slot keeps tables small
-small_table : (table : List HandleSlot) (i : ℕ) (f : HandleSlot → HandleSlot) → KeepsInstances f → IsSmallTable table → IsSmallTable (slice_set table i (f (slot_at table i)))
+small_table : (table : List HandleSlot) (i : ℕ) (f : HandleSlot → HandleSlot) → KeepsInstances f → IsSmallTable table
+    → IsSmallTable (slice_set table i (f (slot_at table i)))
 small_table table i f keeps h = record {
   size = let long = length-set table i (f (slot_at table i)) in let few = h.size in omega arith;
-  instances = set_keeps (λ (slot : HandleSlot). slot.instance ≤ 16383) table i (f (slot_at table i)) fresh_slot (keeps (slot_at table i) (h.instances i)) h.instances;
+  instances =
+      set_keeps (λ (slot : HandleSlot). slot.instance ≤ 16383) table i (f (slot_at table i)) fresh_slot
+      (keeps (slot_at table i) (h.instances i)) h.instances;
 }
 
-small_tables : (tables : List (List HandleSlot)) (owner : ObjNo) (i : ℕ) (f : HandleSlot → HandleSlot) → KeepsInstances f → AreSmallTables tables → AreSmallTables (with_slot tables owner i f)
-small_tables tables owner i f keeps h = set_keeps IsSmallTable tables owner.0 (slice_set (get_or tables owner.0 []) i (f (slot_at (get_or tables owner.0 []) i))) [] (small_table (get_or tables owner.0 []) i f keeps (h owner.0)) h
+small_tables : (tables : List (List HandleSlot)) (owner : ObjNo) (i : ℕ) (f : HandleSlot → HandleSlot)
+    → KeepsInstances f → AreSmallTables tables → AreSmallTables (with_slot tables owner i f)
+small_tables tables owner i f keeps h =
+    set_keeps IsSmallTable tables owner.0 (slice_set (get_or tables owner.0 []) i
+    (f (slot_at (get_or tables owner.0 []) i))) [] (small_table (get_or tables owner.0 []) i f keeps (h owner.0)) h
 
 tables_gained : (h : Holder) (o : ObjNo) (tables : List (List HandleSlot)) → AreSmallTables tables → AreSmallTables (tables_gain h o tables)
 tables_gained (holder.InProcess p i) o tables small = small_tables tables p i (taken_slot o) (taken_small o) small
@@ -102,8 +112,11 @@ map_stays f stays n (Some old) h row e =
     let b = h old refl in
     omega arith
 
-row_stays : (f : ThreadRow → ThreadRow) → StaysAt f → (n : ℕ) (threads : List (Option ThreadRow)) (t : ObjNo) → MayAdvance n threads → MayAdvance n (with_row threads t f)
-row_stays f stays n threads t h = set_keeps (CanGo n) threads t.0 (option_map f (get_or threads t.0 None)) None (map_stays f stays n (get_or threads t.0 None) (h t.0)) h
+row_stays : (f : ThreadRow → ThreadRow) → StaysAt f → (n : ℕ) (threads : List (Option ThreadRow)) (t : ObjNo)
+    → MayAdvance n threads → MayAdvance n (with_row threads t f)
+row_stays f stays n threads t h =
+    set_keeps (CanGo n) threads t.0 (option_map f (get_or threads t.0 None)) None
+    (map_stays f stays n (get_or threads t.0 None) (h t.0)) h
 
 threads_gained : (h : Holder) (o : ObjNo) (n : ℕ) (threads : List (Option ThreadRow)) → MayAdvance n threads → MayAdvance n (threads_gain h o threads)
 threads_gained (holder.Temp t) o n threads h = row_stays (with_use (Some o)) (λ row. refl) n threads t h
@@ -141,7 +154,7 @@ threads_long : (t : ObjNo) (m : Move) (S : State) → length (moved t m S).refer
 threads_long t (Make kind name h) S = long_gained h (next_object S) S.references.threads
 threads_long t (Gain h o) S = long_gained h o S.references.threads
 threads_long t (Lose h o) S = long_closed (dies S o) o (threads_lose h S.references.threads) ∙ long_lost h S.references.threads
-threads_long t (Find u o) S = long_row S.references.threads u (with_found o)
+threads_long t (Find u o) S = long_row S.references.threads u (with_found o (place_of (object_of S o)))
 threads_long t (Open u o part) S = long_row S.references.threads u (with_opened o part)
 threads_long t (Miss u o) S = long_row S.references.threads u with_missed
 threads_long t (GoOn u part) S = long_row S.references.threads u (with_part part)
@@ -170,6 +183,7 @@ threads_long t (Pay (Sweep o)) S = length-set S.references.threads o.0 None
 pub room_less : (m n : ℕ) (S : State) → m ≤ n → HasRoom n S → HasRoom m S
 room_less m n S le room = record {
   objects = let few = room.objects in omega arith;
+  made = let few = room.made in omega arith;
   threads = room.threads;
   instructions = threads_less m n le S.references.threads room.instructions;
   tables = room.tables;
@@ -187,9 +201,14 @@ accepts_one (Take o) r = accepts_same (next_of r o)
     accepts_same (Some m) = omega arith
 
 -- room after a move that changes the rows of threads alone
-with_threads : (n : ℕ) (S T : State) → T.references.objects ≡ S.references.objects → T.references.handles ≡ S.references.handles → T.serving.messages.accepted ≤ S.serving.messages.accepted + 1 → length T.references.threads ≡ length S.references.threads → MayAdvance n T.references.threads → HasRoom (n + 1) S → HasRoom n T
-with_threads n S T same tables accepted long may room = record {
+with_threads : (n : ℕ) (S T : State) → T.references.objects ≡ S.references.objects
+    → T.references.handles ≡ S.references.handles → T.references.made ≡ S.references.made
+    → T.serving.messages.accepted ≤ S.serving.messages.accepted + 1
+    → length T.references.threads ≡ length S.references.threads → MayAdvance n T.references.threads → HasRoom (n + 1) S
+    → HasRoom n T
+with_threads n S T same tables makings accepted long may room = record {
   objects = let few = room.objects in let made = ap (λ (xs : List (Option ObjectRow)). length xs) same in omega arith;
+  made = let few = room.made in omega arith;
   threads = let few = room.threads in omega arith;
   instructions = may;
   tables = subst AreSmallTables (sym tables) room.tables;
@@ -206,7 +225,11 @@ death_stays (Bury t) row = refl
 -- a move takes one away
 pub room_moved : (t : ObjNo) (m : Move) (n : ℕ) (S : State) → HasRoom (n + 1) S → HasRoom n (moved t m S)
 room_moved t (Make kind name h) n S room = record {
-  objects = let few = room.objects in let long = length-append S.references.objects (Some (new_object kind name) ∷ []) in omega arith;
+  objects =
+      let few = room.objects in
+      let long = (made-long S.references.objects (next_object S).0 (new_object kind name S.references.made)
+      (next_number_is S.mode.reuse S.references.objects).0).most in omega arith;
+  made = let few = room.made in omega arith;
   threads = let few = room.threads in let long = threads_long t (Make kind name h) S in omega arith;
   instructions = threads_gained h (next_object S) n S.references.threads (threads_less n (n + 1) (omega arith) S.references.threads room.instructions);
   tables = tables_gained h (next_object S) S.references.handles room.tables;
@@ -214,6 +237,7 @@ room_moved t (Make kind name h) n S room = record {
 }
 room_moved t (Gain h o) n S room = record {
   objects = let few = room.objects in omega arith;
+  made = let few = room.made in omega arith;
   threads = let few = room.threads in let long = threads_long t (Gain h o) S in omega arith;
   instructions = threads_gained h o n S.references.threads (threads_less n (n + 1) (omega arith) S.references.threads room.instructions);
   tables = tables_gained h o S.references.handles room.tables;
@@ -221,35 +245,90 @@ room_moved t (Gain h o) n S room = record {
 }
 room_moved t (Lose h o) n S room = record {
   objects = let few = room.objects in let long = length_closed (dies S o) o S.references.objects in omega arith;
+  made = let few = room.made in omega arith;
   threads = let few = room.threads in let long = threads_long t (Lose h o) S in omega arith;
-  instructions = threads_unlinked (dies S o) o n (threads_lose h S.references.threads) (threads_lost h n S.references.threads (threads_less n (n + 1) (omega arith) S.references.threads room.instructions));
+  instructions =
+      threads_unlinked (dies S o) o n (threads_lose h S.references.threads)
+      (threads_lost h n S.references.threads (threads_less n (n + 1)
+      (omega arith) S.references.threads room.instructions));
   tables = tables_lost h S.references.handles room.tables;
   messages = let few = room.messages in omega arith;
 }
-room_moved t (Find u o) n S room = with_threads n S (moved t (Find u o) S) refl refl (omega arith) (threads_long t (Find u o) S) (row_goes (with_found o) (λ row. omega arith) n S.references.threads u room.instructions) room
-room_moved t (Open u o part) n S room = with_threads n S (moved t (Open u o part) S) refl refl (omega arith) (threads_long t (Open u o part) S) (row_goes (with_opened o part) (λ row. omega arith) n S.references.threads u room.instructions) room
-room_moved t (Miss u o) n S room = with_threads n S (moved t (Miss u o) S) refl refl (omega arith) (threads_long t (Miss u o) S) (row_goes with_missed (λ row. omega arith) n S.references.threads u room.instructions) room
-room_moved t (GoOn u part) n S room = with_threads n S (moved t (GoOn u part) S) refl refl (omega arith) (threads_long t (GoOn u part) S) (row_goes (with_part part) (λ row. omega arith) n S.references.threads u room.instructions) room
-room_moved t (Keep u number) n S room = with_threads n S (moved t (Keep u number) S) refl refl (omega arith) (threads_long t (Keep u number) S) (row_goes (with_kept number) (λ row. omega arith) n S.references.threads u room.instructions) room
-room_moved t (Write u x value) n S room = with_threads n S (moved t (Write u x value) S) refl refl (omega arith) (threads_long t (Write u x value) S) (row_goes (with_register x value) (λ row. omega arith) n S.references.threads u room.instructions) room
-room_moved t (WriteMessage u y number) n S room = with_threads n S (moved t (WriteMessage u y number) S) refl refl (omega arith) (threads_long t (WriteMessage u y number) S) (row_goes (with_message y number) (λ row. omega arith) n S.references.threads u room.instructions) room
-room_moved t (PutDown u) n S room = with_threads n S (moved t (PutDown u) S) refl refl (omega arith) (threads_long t (PutDown u) S) (row_goes (with_use None) (λ row. omega arith) n S.references.threads u room.instructions) room
-room_moved t (Advance u) n S room = with_threads n S (moved t (Advance u) S) refl refl (omega arith) (threads_long t (Advance u) S) (row_goes advanced (λ row. omega arith) n S.references.threads u room.instructions) room
-room_moved t (Wait u what) n S room = with_threads n S (moved t (Wait u what) S) refl refl (omega arith) (threads_long t (Wait u what) S) (row_goes (with_waiting what) (λ row. omega arith) n S.references.threads u room.instructions) room
-room_moved t (Wake u) n S room = with_threads n S (moved t (Wake u) S) refl refl (omega arith) (threads_long t (Wake u) S) (row_goes (with_waiting Nothing) (λ row. omega arith) n S.references.threads u room.instructions) room
-room_moved t (SetPriority u priority) n S room = with_threads n S (moved t (SetPriority u priority) S) refl refl (omega arith) (threads_long t (SetPriority u priority) S) (row_goes (with_priority priority) (λ row. omega arith) n S.references.threads u room.instructions) room
-room_moved t (Nano m) n S room = with_threads n S (moved t (Nano m) S) refl refl (omega arith) (threads_long t (Nano m) S) (threads_less n (n + 1) (omega arith) S.references.threads room.instructions) room
-room_moved t (Deferred m) n S room = with_threads n S (moved t (Deferred m) S) refl refl (omega arith) (threads_long t (Deferred m) S) (threads_less n (n + 1) (omega arith) S.references.threads room.instructions) room
-room_moved t (Requests m) n S room = with_threads n S (moved t (Requests m) S) refl refl (omega arith) (threads_long t (Requests m) S) (threads_less n (n + 1) (omega arith) S.references.threads room.instructions) room
-room_moved t (Locks m) n S room = with_threads n S (moved t (Locks m) S) refl refl (omega arith) (threads_long t (Locks m) S) (threads_less n (n + 1) (omega arith) S.references.threads room.instructions) room
-room_moved t (Logons m) n S room = with_threads n S (moved t (Logons m) S) refl refl (omega arith) (threads_long t (Logons m) S) (threads_less n (n + 1) (omega arith) S.references.threads room.instructions) room
-room_moved t (Death m) n S room = with_threads n S (moved t (Death m) S) refl refl (omega arith) (threads_long t (Death m) S) (row_stays (death_row m) (death_stays m) n S.references.threads (death_thread m) (threads_less n (n + 1) (omega arith) S.references.threads room.instructions)) room
-room_moved t (Servers m) n S room = with_threads n S (moved t (Servers m) S) refl refl (omega arith) (threads_long t (Servers m) S) (threads_less n (n + 1) (omega arith) S.references.threads room.instructions) room
-room_moved t (Messages m) n S room = with_threads n S (moved t (Messages m) S) refl refl (accepts_one m S.serving.messages) (threads_long t (Messages m) S) (threads_less n (n + 1) (omega arith) S.references.threads room.instructions) room
-room_moved t (Fill p at long byte) n S room = with_threads n S (moved t (Fill p at long byte) S) refl refl (omega arith) (threads_long t (Fill p at long byte) S) (threads_less n (n + 1) (omega arith) S.references.threads room.instructions) room
-room_moved t (Copies m) n S room = with_threads n S (moved t (Copies m) S) refl refl (let same = copy_accepts m S.references.threads S.serving.messages in omega arith) (threads_long t (Copies m) S) (threads_less n (n + 1) (omega arith) S.references.threads room.instructions) room
+room_moved t (Find u o) n S room =
+    with_threads n S (moved t (Find u o) S) refl refl refl (omega arith) (threads_long t (Find u o) S)
+    (row_goes (with_found o (place_of (object_of S o))) (λ row. omega arith) n S.references.threads u room.instructions)
+    room
+room_moved t (Open u o part) n S room =
+    with_threads n S (moved t (Open u o part) S) refl refl refl (omega arith) (threads_long t (Open u o part) S)
+    (row_goes (with_opened o part) (λ row. omega arith) n S.references.threads u room.instructions) room
+room_moved t (Miss u o) n S room =
+    with_threads n S (moved t (Miss u o) S) refl refl refl (omega arith) (threads_long t (Miss u o) S)
+    (row_goes with_missed (λ row. omega arith) n S.references.threads u room.instructions) room
+room_moved t (GoOn u part) n S room =
+    with_threads n S (moved t (GoOn u part) S) refl refl refl (omega arith) (threads_long t (GoOn u part) S)
+    (row_goes (with_part part) (λ row. omega arith) n S.references.threads u room.instructions) room
+room_moved t (Keep u number) n S room =
+    with_threads n S (moved t (Keep u number) S) refl refl refl (omega arith) (threads_long t (Keep u number) S)
+    (row_goes (with_kept number) (λ row. omega arith) n S.references.threads u room.instructions) room
+room_moved t (Write u x value) n S room =
+    with_threads n S (moved t (Write u x value) S) refl refl refl (omega arith) (threads_long t (Write u x value) S)
+    (row_goes (with_register x value) (λ row. omega arith) n S.references.threads u room.instructions) room
+room_moved t (WriteMessage u y number) n S room =
+    with_threads n S (moved t (WriteMessage u y number) S) refl refl refl (omega arith)
+    (threads_long t (WriteMessage u y number) S)
+    (row_goes (with_message y number) (λ row. omega arith) n S.references.threads u room.instructions) room
+room_moved t (PutDown u) n S room =
+    with_threads n S (moved t (PutDown u) S) refl refl refl (omega arith) (threads_long t (PutDown u) S)
+    (row_goes (with_use None) (λ row. omega arith) n S.references.threads u room.instructions) room
+room_moved t (Advance u) n S room =
+    with_threads n S (moved t (Advance u) S) refl refl refl (omega arith) (threads_long t (Advance u) S)
+    (row_goes advanced (λ row. omega arith) n S.references.threads u room.instructions) room
+room_moved t (Wait u what) n S room =
+    with_threads n S (moved t (Wait u what) S) refl refl refl (omega arith) (threads_long t (Wait u what) S)
+    (row_goes (with_waiting what) (λ row. omega arith) n S.references.threads u room.instructions) room
+room_moved t (Wake u) n S room =
+    with_threads n S (moved t (Wake u) S) refl refl refl (omega arith) (threads_long t (Wake u) S)
+    (row_goes (with_waiting Nothing) (λ row. omega arith) n S.references.threads u room.instructions) room
+room_moved t (SetPriority u priority) n S room =
+    with_threads n S (moved t (SetPriority u priority) S) refl refl refl (omega arith)
+    (threads_long t (SetPriority u priority) S)
+    (row_goes (with_priority priority) (λ row. omega arith) n S.references.threads u room.instructions) room
+room_moved t (Nano m) n S room =
+    with_threads n S (moved t (Nano m) S) refl refl refl (omega arith) (threads_long t (Nano m) S)
+    (threads_less n (n + 1) (omega arith) S.references.threads room.instructions) room
+room_moved t (Deferred m) n S room =
+    with_threads n S (moved t (Deferred m) S) refl refl refl (omega arith) (threads_long t (Deferred m) S)
+    (threads_less n (n + 1) (omega arith) S.references.threads room.instructions) room
+room_moved t (Requests m) n S room =
+    with_threads n S (moved t (Requests m) S) refl refl refl (omega arith) (threads_long t (Requests m) S)
+    (threads_less n (n + 1) (omega arith) S.references.threads room.instructions) room
+room_moved t (Locks m) n S room =
+    with_threads n S (moved t (Locks m) S) refl refl refl (omega arith) (threads_long t (Locks m) S)
+    (threads_less n (n + 1) (omega arith) S.references.threads room.instructions) room
+room_moved t (Logons m) n S room =
+    with_threads n S (moved t (Logons m) S) refl refl refl (omega arith) (threads_long t (Logons m) S)
+    (threads_less n (n + 1) (omega arith) S.references.threads room.instructions) room
+room_moved t (Death m) n S room =
+    with_threads n S (moved t (Death m) S) refl refl refl (omega arith) (threads_long t (Death m) S)
+    (row_stays (death_row m) (death_stays m) n S.references.threads (death_thread m)
+    (threads_less n (n + 1) (omega arith) S.references.threads room.instructions)) room
+room_moved t (Servers m) n S room =
+    with_threads n S (moved t (Servers m) S) refl refl refl (omega arith) (threads_long t (Servers m) S)
+    (threads_less n (n + 1) (omega arith) S.references.threads room.instructions) room
+room_moved t (Messages m) n S room =
+    with_threads n S (moved t (Messages m) S) refl refl refl (accepts_one m S.serving.messages)
+    (threads_long t (Messages m) S) (threads_less n (n + 1) (omega arith) S.references.threads room.instructions) room
+room_moved t (Fill p at long byte) n S room =
+    with_threads n S (moved t (Fill p at long byte) S) refl refl refl (omega arith)
+    (threads_long t (Fill p at long byte) S)
+    (threads_less n (n + 1) (omega arith) S.references.threads room.instructions) room
+room_moved t (Copies m) n S room =
+    with_threads n S (moved t (Copies m) S) refl refl refl
+    (let same = copy_accepts m S.references.threads S.serving.messages in omega arith) (threads_long t (Copies m) S)
+    (threads_less n (n + 1) (omega arith) S.references.threads room.instructions) room
 room_moved t (Pay (Close h o)) n S room = record {
   objects = let few = room.objects in let long = length_closed (dies S o) o S.references.objects in omega arith;
+  made = let few = room.made in omega arith;
   threads = let few = room.threads in let long = threads_long t (Pay (Close h o)) S in omega arith;
   instructions = threads_unlinked (dies S o) o n S.references.threads (threads_less n (n + 1) (omega arith) S.references.threads room.instructions);
   tables = room.tables;
@@ -257,8 +336,11 @@ room_moved t (Pay (Close h o)) n S room = record {
 }
 room_moved t (Pay (Sweep o)) n S room = record {
   objects = let few = room.objects in let long = length-set S.references.objects o.0 None in omega arith;
+  made = let few = room.made in omega arith;
   threads = let few = room.threads in let long = threads_long t (Pay (Sweep o)) S in omega arith;
-  instructions = set_keeps (CanGo n) S.references.threads o.0 None None (λ row e. absurd (cc)) (threads_less n (n + 1) (omega arith) S.references.threads room.instructions);
+  instructions =
+      set_keeps (CanGo n) S.references.threads o.0 None None (λ row e. absurd (cc))
+      (threads_less n (n + 1) (omega arith) S.references.threads room.instructions);
   tables = room.tables;
   messages = let few = room.messages in omega arith;
 }

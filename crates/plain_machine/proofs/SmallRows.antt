@@ -54,7 +54,8 @@ AreLimited counts = (k : ℕ) → get_or counts k 0 ≤ 127
 limited_set : (counts : List ℕ) (k count : ℕ) → count ≤ 127 → AreLimited counts → AreLimited (slice_set counts k count)
 limited_set counts k count few limited = set_keeps (λ (n : ℕ). n ≤ 127) counts k count 0 few limited
 
-limited_more : (counts : List ℕ) (k : ℕ) (ends : Bool) → (get_or counts k 0 == 127) ≡ ends → AreLimited counts → AreLimited (if ends then counts else slice_set counts k (get_or counts k 0 + 1))
+limited_more : (counts : List ℕ) (k : ℕ) (ends : Bool) → (get_or counts k 0 == 127) ≡ ends → AreLimited counts
+    → AreLimited (if ends then counts else slice_set counts k (get_or counts k 0 + 1))
 limited_more counts k true e limited = limited
 limited_more counts k false e limited = limited_set counts k (get_or counts k 0 + 1) (let few = limited k in grind arith) limited
 
@@ -62,20 +63,35 @@ by_number : (r : NanoRows) → AreSmallRows r → AreLimited r.suspensions
 by_number r small k = small.suspensions (record { 0 = k })
 
 small_nano : (m : NanoMove) (r : NanoRows) → AreSmallRows r → AreSmallRows (nano_moved m r)
-small_nano (Take t f) r small = record { mutexes = let same = length_where (is_free r f) r.holders f (Some t) in let few = small.mutexes in omega arith; suspensions = small.suspensions }
-small_nano (Give t f) r small = record { mutexes = let same = length_where (is_holder r t f) r.holders f None in let few = small.mutexes in omega arith; suspensions = small.suspensions }
+small_nano (Take t f) r small = record {
+  mutexes = let same = length_where (is_free r f) r.holders f (Some t) in let few = small.mutexes in omega arith;
+  suspensions = small.suspensions;
+}
+small_nano (Give t f) r small = record {
+  mutexes = let same = length_where (is_holder r t f) r.holders f None in let few = small.mutexes in omega arith;
+  suspensions = small.suspensions;
+}
 small_nano (Want t f) r small = record { mutexes = small.mutexes; suspensions = small.suspensions }
 small_nano (Enter t) r small = record { mutexes = small.mutexes; suspensions = small.suspensions }
 small_nano (Leave t) r small = record { mutexes = small.mutexes; suspensions = small.suspensions }
 small_nano (LeaveAll t) r small = record { mutexes = small.mutexes; suspensions = small.suspensions }
-small_nano (Suspend t) r small = record { mutexes = small.mutexes; suspensions = λ u. limited_more r.suspensions t.0 (suspend_count r t == 127) refl (by_number r small) u.0 }
-small_nano (Resume t) r small = record { mutexes = small.mutexes; suspensions = λ u. limited_set r.suspensions t.0 (suspend_count r t - 1) (let few = small.suspensions t in omega arith) (by_number r small) u.0 }
+small_nano (Suspend t) r small = record {
+  mutexes = small.mutexes;
+  suspensions = λ u. limited_more r.suspensions t.0 (suspend_count r t == 127) refl (by_number r small) u.0;
+}
+small_nano (Resume t) r small = record {
+  mutexes = small.mutexes;
+  suspensions =
+      λ u. limited_set r.suspensions t.0 (suspend_count r t - 1) (let few = small.suspensions t in omega arith)
+      (by_number r small) u.0;
+}
 small_nano (Release t) r small = record { mutexes = small.mutexes; suspensions = λ u. limited_set r.suspensions t.0 0 (omega arith) (by_number r small) u.0 }
 small_nano (Raise t) r small = record { mutexes = small.mutexes; suspensions = small.suspensions }
 small_nano (Lower t) r small = record { mutexes = small.mutexes; suspensions = small.suspensions }
 
 -- The numbers of messages stay small: the next one has room.
-small_added : (n : ℕ) (r : MessageRows) (slots : Slots) (row : MsgRow) → r.accepted + (n + 1) ≤ 2147483647 → AreSmallNumbers r.outstanding → AreSmallNumbers (added r slots row).outstanding
+small_added : (n : ℕ) (r : MessageRows) (slots : Slots) (row : MsgRow) → r.accepted + (n + 1) ≤ 2147483647
+    → AreSmallNumbers r.outstanding → AreSmallNumbers (added r slots row).outstanding
 small_added n r slots row room small =
     let message : Message = record { number = next_number r; slots = slots; row = row } in
     All-push IsSmallNumber r.outstanding message small (omega arith)
@@ -88,29 +104,39 @@ small_edited m change message few = small_where (has_number m message)
     small_where false = few
 
 small_changed : (r : MessageRows) (m : MsgNo) (change : MsgRow → MsgRow) → AreSmallNumbers r.outstanding → AreSmallNumbers (with_edited r m change).outstanding
-small_changed r m change small = All-map IsSmallNumber (edited m change) r.outstanding (All-weaker IsSmallNumber (λ (message : Message). IsSmallNumber (edited m change message)) (small_edited m change) r.outstanding small)
+small_changed r m change small =
+    All-map IsSmallNumber (edited m change) r.outstanding
+    (All-weaker IsSmallNumber (λ (message : Message). IsSmallNumber (edited m change message))
+    (small_edited m change) r.outstanding small)
 
 small_taken : (r : MessageRows) (found : Option MsgNo) → AreSmallNumbers r.outstanding → AreSmallNumbers (taken r found).outstanding
 small_taken r None small = small
 small_taken r (Some m) small = small_changed r m taken_row small
 
-small_messages : (m : MessageMove) (n : ℕ) (r : MessageRows) → r.accepted + (n + 1) ≤ 2147483647 → AreSmallNumbers r.outstanding → AreSmallNumbers (messages_moved m r).outstanding
+small_messages : (m : MessageMove) (n : ℕ) (r : MessageRows) → r.accepted + (n + 1) ≤ 2147483647
+    → AreSmallNumbers r.outstanding → AreSmallNumbers (messages_moved m r).outstanding
 small_messages (Accept slots row) n r room small = small_added n r slots row room small
 small_messages (TakeMessage o) n r room small = small_taken r (next_of r o) small
 small_messages (Finish m code) n r room small = All-filter (λ (message : Message). not (has_number m message)) IsSmallNumber r.outstanding small
 
-small_copied : (m : CopyMove) (threads : List (Option ThreadRow)) (r : MessageRows) → AreSmallNumbers r.outstanding → AreSmallNumbers (messages_copied m threads r).outstanding
+small_copied : (m : CopyMove) (threads : List (Option ThreadRow)) (r : MessageRows) → AreSmallNumbers r.outstanding
+    → AreSmallNumbers (messages_copied m threads r).outstanding
 small_copied (Read job) threads r small = small
 small_copied (WriteCopy job) threads r small = by (write_refusal (ends_of threads r job) job) (nat_lt (done_after (write_size job) job.done) (write_size job))
   where
-    by : (refusal : Option Piece) (goes_on : Bool) → AreSmallNumbers (unless_refused refusal r (if goes_on then r else after_set_length r job.m job.arg (job.offset + job.len))).outstanding
+    by : (refusal : Option Piece) (goes_on : Bool)
+        → AreSmallNumbers (unless_refused refusal r
+        (if goes_on then r else after_set_length r job.m job.arg (job.offset + job.len))).outstanding
     by (Some refusal) goes_on = small
     by None true = small
     by None false = small_changed r job.m (resized job.arg (job.offset + job.len)) small
 
 -- so both stay after each move
 same_rows : (S T : State) → T.synchronization.nano ≡ S.synchronization.nano → T.serving.messages ≡ S.serving.messages → IsSmall S → IsSmall T
-same_rows S T same messages small = record { nano = subst AreSmallRows (sym same) small.nano; messages = subst (λ (r : MessageRows). AreSmallNumbers r.outstanding) (sym messages) small.messages }
+same_rows S T same messages small = record {
+  nano = subst AreSmallRows (sym same) small.nano;
+  messages = subst (λ (r : MessageRows). AreSmallNumbers r.outstanding) (sym messages) small.messages;
+}
 
 pub small_moved : (t : ObjNo) (m : Move) (n : ℕ) (S : State) → HasRoom (n + 1) S → IsSmall S → IsSmall (moved t m S)
 small_moved t (Nano m) n S room small = record { nano = small_nano m S.synchronization.nano small.nano; messages = small.messages }

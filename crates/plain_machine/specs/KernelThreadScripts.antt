@@ -53,7 +53,9 @@ abbrev pub high_instrs : List Instr
 high_instrs = instr.Fswait ∷ instr.Flock 0 ∷ instr.Funlock 0 ∷ []
 
 unfoldable pub holder_runs : Script
-holder_runs = kernel_script 1 (kernel_thread (codes "l") 10 low_instrs ∷ kernel_thread (codes "mm") 20 middle_instrs ∷ kernel_thread (codes "hh") 30 high_instrs ∷ []) 10
+holder_runs =
+    kernel_script 1 (kernel_thread (codes "l") 10 low_instrs ∷ kernel_thread
+    (codes "mm") 20 middle_instrs ∷ kernel_thread (codes "hh") 30 high_instrs ∷ []) 10
 
 -- so `l` runs in the place of `hh`, although `mm` is ready and has a greater priority
 unfoldable pub holder_runs_history : List Entry

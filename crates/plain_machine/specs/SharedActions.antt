@@ -10,7 +10,7 @@ use Rattle.plain_machine.specs.PlainView.{IsPlain}
 
 -- a state in which callers share the kernel, with this choice
 abbrev pub choice_made : Bool → State → State
-choice_made keep S = record S { mode = record { shared = true; keep = keep } }
+choice_made keep S = record S { mode = record S.mode { shared = true; keep = keep } }
 
 -- an actor acted with this choice: behind the history stands the entry of the definitions, and the state and the ready list are those after it
 pub record IsMade (script : Script) (old new : List Entry) (actor : Actor) (keep : Bool) (T : State) (list : List ObjNo) (e : Entry) : Type 0 where

@@ -55,7 +55,11 @@ pub fn acted_shared(
     ensures err { OnErr result (history.new ≡ history.old) }
 {
     let mut before = state;
-    before.mode = Mode { shared: true, keep };
+    before.mode = Mode {
+        shared: true,
+        keep,
+        ..before.mode
+    };
     if !can_act(script, &before, ready.as_slice(), actor) {
         return Ok(None);
     }

@@ -8,8 +8,8 @@ ghost use Rattle.readings.specs.Dying.{dead_by};
 use crate::slots::lose_slot;
 use entry_log::Holder;
 use machine::{Move, Owed, State, row_of, set_row, thread_in};
-use plain_rows::{drop_first_owed, owe_close, threads_closed, threads_lose};
-use plain_servers::{owned_lose, server_of, servers_closed, servers_lose};
+use plain_rows::{drop_first_owed, locks_swept, owe_close, threads_closed, threads_lose};
+use plain_servers::{owned_lose, server_of, servers_closed, servers_lose, servers_swept};
 use state_rows::{ObjectRow, dead_row};
 use std::alloc::Global;
 use sym_base::{Items, NoMemory, ObjNo, ThreadNo};
@@ -84,12 +84,14 @@ fn pay_close(
     owe_close(&mut state.references.owed, thread, dying, object, link)
 }
 
-/// The thread removes the row of a dead object.
-fn pay_sweep(state: &mut State, thread: ThreadNo, object: ObjNo)
+/// The thread removes all rows of a dead object.
+fn pay_sweep(alloc: Global, state: &mut State, thread: ThreadNo, object: ObjNo)
     ensures { state.new ≡ moved thread (Move.Pay (Owed.Sweep object)) state.old }
 {
     set_row(&mut state.references.objects, object, None);
     set_row(&mut state.references.threads, object, None);
+    locks_swept(alloc, &mut state.synchronization.locks, object);
+    servers_swept(alloc, &mut state.serving.servers, object);
     drop_first_owed(&mut state.references.owed, thread);
 }
 
@@ -110,7 +112,7 @@ pub fn pay(
             pay_close(alloc, state, thread, holder, object, dead.is_some())
         }
         Owed::Sweep(object) => {
-            pay_sweep(state, thread, object);
+            pay_sweep(alloc, state, thread, object);
             Ok(())
         }
     }

@@ -4,11 +4,13 @@ ghost use Rattle.machine.specs.Moves.{use_of, moved};
 ghost use Rattle.machine.specs.Room.{HasRoom, AreSmallTables};
 ghost use Rattle.plain_machine.specs.Allowed.{IsSmall};
 ghost use Rattle.readings.specs.Dying.{dead_by};
+ghost use Rattle.state_rows.specs.ObjectRows.{with_object};
 
 use crate::closes::{lose, pay};
 use crate::slots::gain_slot;
 use entry_log::Holder;
-use machine::{Move, State, Waiting, thread_in};
+use machine::{Move, State, Waiting, object_of, thread_in};
+use plain_reads::next_object;
 use plain_rows::{
     fill_memory, make_death_move, make_deferred_move, make_lock_move, make_logon_move,
     make_nano_move, make_request_move, owe_use, threads_advance, threads_find, threads_gain,
@@ -16,15 +18,32 @@ use plain_rows::{
     threads_wait, threads_write, threads_write_message,
 };
 use plain_servers::{make_copy, make_message_move, make_server_move, owned_gain};
-use state_rows::ObjectRow;
+use state_rows::{ObjectRow, place_of};
 use std::alloc::Global;
-use sym_base::{Kind, Name, NoMemory, ObjNo, ThreadNo};
+use sym_base::{Items, Kind, Name, NoMemory, ObjNo, ThreadNo};
 
 /// The object that a thread's instruction uses.
 fn use_of(state: &State, thread: ThreadNo) -> Option<ObjNo>
     ensures { result ≡ use_of state.now thread }
 {
     thread_in(&state.references.threads, thread)?.uses
+}
+
+/// The row of an object stands at a number that has none, or that comes next.
+fn place_object(
+    objects: &mut Items<Option<ObjectRow>>,
+    number: ObjNo,
+    row: ObjectRow,
+) -> Result<(), NoMemory>
+    ensures { OnOk result (objects.new ≡ with_object objects.old number.0 row) }
+{
+    let at = number.0 as usize;
+    if at < objects.len() {
+        objects.set(at, Some(row));
+    } else {
+        objects.push(Some(row))?;
+    }
+    Ok(())
 }
 
 /// Makes an object, whose first reference is the holder's.
@@ -38,13 +57,15 @@ fn make(
     requires { HasRoom 1 state.old }
     ensures { OnOk result (state.new ≡ moved thread (Move.Make kind name holder) state.old) }
 {
-    let object = ObjNo(state.references.objects.len() as u16);
+    let object = next_object(state);
     let row = ObjectRow {
         kind,
         name,
         dead: false,
+        place: state.references.made,
     };
-    state.references.objects.push(Some(row))?;
+    place_object(&mut state.references.objects, object, row)?;
+    state.references.made += 1;
     gain_slot(&mut state.references.handles, holder, object);
     threads_gain(&mut state.references.threads, holder, object);
     owned_gain(&mut state.serving.owned, holder, object)
@@ -105,7 +126,10 @@ pub fn make_move(
             threads_open(&mut state.references.threads, other, object, part);
         }
         Move::Miss(other, _) => threads_miss(&mut state.references.threads, other),
-        Move::Find(other, object) => threads_find(&mut state.references.threads, other, object),
+        Move::Find(other, object) => {
+            let place = place_of(&object_of(state, object));
+            threads_find(&mut state.references.threads, other, object, place);
+        }
         Move::GoOn(other, part) => threads_go_on(&mut state.references.threads, other, part),
         Move::Keep(other, number) => threads_keep(&mut state.references.threads, other, number),
         Move::Write(other, register, value) => {

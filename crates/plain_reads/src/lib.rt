@@ -20,6 +20,6 @@ pub use holdings::{first_handle, first_used, has_one_left, is_left, is_one_left}
 pub use lists::first_in;
 pub use locks::{best_waiter, byte_of, lock_count};
 pub use messages::{is_full, message_of, next_message};
-pub use objects::{find_object, is_taken};
+pub use objects::{find_object, is_taken, next_object, no_number_left};
 pub use requests::{reply_of, request_at, request_signals, value_of};
 pub use servers::{first_work, server_at, session_at};

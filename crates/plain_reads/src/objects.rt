@@ -2,11 +2,12 @@
 ghost use Rattle.std.specs.Prelude.{◌≡◌, ◌<◌, ◌≤◌, length, IfSome, position};
 ghost use Rattle.std.specs.List.{list_any};
 ghost use Rattle.machine.specs.Find.{findable, find_object};
-ghost use Rattle.state_rows.specs.ObjectRows.{has_name, named, is_taken};
+ghost use Rattle.machine.specs.Moves.{next_object, no_number_left};
+ghost use Rattle.state_rows.specs.ObjectRows.{first_free, has_name, named, next_number, is_taken};
 
 use machine::{State, is_counted, object_of};
 use state_rows::{ObjectRow, has_name, is_dead_row, is_session};
-use sym_base::{Kind, Name, ObjNo};
+use sym_base::{Kind, Limits, Name, ObjNo};
 
 /// The place of the unswept object of this kind and name.
 fn place_named(kind: Kind, name: &Name, rows: &[Option<ObjectRow>]) -> Option<usize>
@@ -63,4 +64,42 @@ pub fn find_object(state: &State, kind: Kind, name: &Name) -> Option<ObjNo>
         state,
         named(kind, name, state.references.objects.as_slice()),
     )
+}
+
+/// The least number that no unswept object has.
+fn first_free(rows: &[Option<ObjectRow>]) -> usize
+    ensures number { result ≡ first_free rows.now }
+    ensures within { result ≤ length rows.now }
+{
+    for number in 0..rows.len() {
+        let Some(_) = rows[number] else {
+            return number;
+        };
+    }
+    rows.len()
+}
+
+/// The number of the next object: the least that no unswept object has where numbers are used again, else the next.
+fn next_number(reuse: bool, rows: &[Option<ObjectRow>]) -> usize
+    ensures number { result ≡ next_number reuse rows.now }
+    ensures within { result ≤ length rows.now }
+{
+    if reuse { first_free(rows) } else { rows.len() }
+}
+
+/// The number that a new object gets.
+pub fn next_object(state: &State) -> ObjNo
+    requires { length state.now.references.objects ≤ 65535 }
+    ensures { result ≡ next_object state.now }
+{
+    let rows = state.references.objects.as_slice();
+    ObjNo(next_number(state.mode.reuse, rows) as u16)
+}
+
+/// Whether no number is left for a new object.
+pub fn no_number_left(state: &State) -> bool
+    ensures { result ≡ no_number_left state.now }
+{
+    let rows = state.references.objects.as_slice();
+    next_number(state.mode.reuse, rows) == Limits::OBJECTS
 }

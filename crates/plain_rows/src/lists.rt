@@ -67,3 +67,13 @@ pub fn remove_from(
     }
     Ok(())
 }
+
+/// The list of a number is empty.
+pub fn clear_list(alloc: Global, lists: &mut Items<Items<ObjNo>>, number: ObjNo)
+    ensures { lists.new ≡ slice_set lists.old number.0 [] }
+{
+    let at = number.0 as usize;
+    if at < lists.len() {
+        *lists.get_mut(at) = Items::new(Vec::new(alloc));
+    }
+}

@@ -5,9 +5,9 @@ ghost use Rattle.state_rows.specs.declared.locks.Unlocked.TheVariants.{Level};
 ghost use Rattle.machine.specs.Moves.{moved};
 ghost use Rattle.machine.specs.LockMoves.{lock_moved, mutexes_moved, owed_moved};
 ghost use Rattle.state_rows.specs.Locks.{count_at, waiters_at, without};
-ghost use Rattle.state_rows.specs.LockChanges.{after_new_row, after_free, after_lock, after_remove, after_unlock, after_wait, after_signal, owner_after_lock, owner_after_unlock, once, counted};
+ghost use Rattle.state_rows.specs.LockChanges.{after_new_row, after_free, after_lock, after_remove, after_unlock, after_wait, after_signal, after_sweep, owner_after_lock, owner_after_unlock, once, counted};
 
-use crate::lists::{push_to, remove_from, unlisted};
+use crate::lists::{clear_list, push_to, remove_from, unlisted};
 use crate::mutexes::{give_up, owe_own, set_holding};
 use crate::nano::{one_more, set_count};
 use machine::{LockMove, LockRows, Move, Owed, State, row_of, set_row};
@@ -252,4 +252,13 @@ pub fn make_lock_move(
     move_rows(alloc, &mut state.synchronization.locks, change)?;
     move_mutexes(alloc, &mut state.synchronization.mutexes, change)?;
     move_owed(&mut state.references.owed, change)
+}
+
+/// Nobody owns a swept object or waits for it, and its count is 0.
+pub fn locks_swept(alloc: Global, rows: &mut LockRows, object: ObjNo)
+    ensures { rows.new ≡ after_sweep rows.old object }
+{
+    set_row(&mut rows.owners, object, None);
+    set_count(&mut rows.counts, object, 0);
+    clear_list(alloc, &mut rows.waiters, object);
 }

@@ -29,11 +29,12 @@ fn unlinked(row: &mut Option<ThreadRow>)
 }
 
 /// The row has what was found, and the return comes next.
-fn with_found(row: &mut Option<ThreadRow>, object: ObjNo)
-    ensures { row.new ≡ option_map (with_found object) row.old }
+fn with_found(row: &mut Option<ThreadRow>, object: ObjNo, place: u64)
+    ensures { row.new ≡ option_map (with_found object place) row.old }
 {
     if let Some(row) = row {
         row.found = u32::from(object.0);
+        row.sought = place;
         row.part = Some(Part::Return);
     }
 }
@@ -170,13 +171,18 @@ pub fn threads_closed(threads: &mut Items<Option<ThreadRow>>, dying: bool, objec
     }
 }
 
-/// The thread found an object, and comes back next.
-pub fn threads_find(threads: &mut Items<Option<ThreadRow>>, thread: ThreadNo, object: ObjNo)
-    ensures { threads.new ≡ with_row threads.old thread (with_found object) }
+/// The thread found an object of a place, and comes back next.
+pub fn threads_find(
+    threads: &mut Items<Option<ThreadRow>>,
+    thread: ThreadNo,
+    object: ObjNo,
+    place: u64,
+)
+    ensures { threads.new ≡ with_row threads.old thread (with_found object place) }
 {
     let at = thread.0 as usize;
     if at < threads.len() {
-        with_found(threads.get_mut(at), object);
+        with_found(threads.get_mut(at), object, place);
     }
 }
 

@@ -9,4 +9,5 @@ pub use copies::make_copy;
 pub use messages::make_message_move;
 pub use servers::{
     make_server_move, owned_gain, owned_lose, server_of, servers_closed, servers_lose,
+    servers_swept,
 };

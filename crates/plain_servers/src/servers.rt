@@ -2,13 +2,13 @@
 ghost use Rattle.std.specs.Prelude.{◌≡◌, option_map, OnOk};
 ghost use Rattle.machine.specs.Moves.{moved};
 ghost use Rattle.machine.specs.ServerMoves.{all_closing, owned_gain, owned_lose, servers_closed, servers_lose};
-ghost use Rattle.state_rows.specs.ServerChanges.{after_add_server, after_add_session, after_closing, after_detach, after_set_open, closing, detached, opened, unlisted};
+ghost use Rattle.state_rows.specs.ServerChanges.{after_add_server, after_add_session, after_closing, after_detach, after_set_open, after_sweep, closing, connected, detached, opened, unlisted};
 ghost use Rattle.state_rows.specs.ServerRows.{server_of};
 
 use entry_log::Holder;
 use machine::{Move, ServerMove, State, row_of, set_row};
-use plain_rows::{list_of, push_to, remove_from};
-use state_rows::{ServerRow, ServerRows, SessionRow};
+use plain_rows::{clear_list, list_of, push_to, remove_from};
+use state_rows::{Connection, ServerRow, ServerRows, SessionRow};
 use std::alloc::Global;
 use sym_base::{Items, NoMemory, ObjNo, Slots, ThreadNo};
 
@@ -38,7 +38,7 @@ fn join(
         server: Some(server),
         slots,
         client,
-        is_open: false,
+        connection: Connection::New,
     };
     set_row(&mut rows.servers, object, None);
     set_row(&mut rows.sessions, object, Some(row));
@@ -72,17 +72,28 @@ fn close_all(rows: &mut ServerRows, servers: &[ObjNo])
     }
 }
 
-/// The row of a session that is open, or isn't.
+/// How far a session is that was opened, or closed.
+fn connected(to: bool) -> Connection
+    ensures { result ≡ connected to }
+{
+    if to {
+        Connection::Open
+    } else {
+        Connection::Closed
+    }
+}
+
+/// The row of a session that was opened, or closed.
 fn opened(row: Option<SessionRow>, to: bool) -> Option<SessionRow>
     ensures { result ≡ option_map (opened to) row }
 {
     Some(SessionRow {
-        is_open: to,
+        connection: connected(to),
         ..row?
     })
 }
 
-/// The session is open from now on, or isn't.
+/// The session is open from now on, or closed.
 fn set_open(rows: &mut ServerRows, session: ObjNo, to: bool)
     ensures { rows.new ≡ after_set_open rows.old session to }
 {
@@ -182,6 +193,15 @@ pub fn servers_closed(
     } else {
         Ok(())
     }
+}
+
+/// A swept object is no server and no session, and none is linked to it.
+pub fn servers_swept(alloc: Global, rows: &mut ServerRows, object: ObjNo)
+    ensures { rows.new ≡ after_sweep rows.old object }
+{
+    set_row(&mut rows.servers, object, None);
+    set_row(&mut rows.sessions, object, None);
+    clear_list(alloc, &mut rows.linked, object);
 }
 
 /// A holder gets a reference: an owner has a server more.

@@ -7,14 +7,15 @@ use machine::{
 };
 use plain_reads::{
     best_waiter, buried_by, byte_of, find_object, first_handle, first_in, first_work, has_one_left,
-    is_full, is_queued, is_taken, lock_count, message_of, next_immediate, next_message, next_of,
-    queue_of, reply_of, request_at, request_signals, server_at, session_at, value_of,
+    is_full, is_queued, is_taken, lock_count, message_of, next_immediate, next_message,
+    next_object, next_of, no_number_left, queue_of, reply_of, request_at, request_signals,
+    server_at, session_at, value_of,
 };
 use script_types::Script;
 use state_rows::{
     Item, Message, ObjectRow, Owner, Request, ServerRow, SessionRow, free_index, is_local, look,
 };
-use sym_base::{Kind, Limits, MsgNo, Name, ObjNo, Slots, ThreadNo};
+use sym_base::{Kind, MsgNo, Name, ObjNo, Slots, ThreadNo};
 
 impl Reads for State {
     ghost use Rattle.readings.specs.Readable.{IsReadable};
@@ -63,11 +64,11 @@ impl Reads for State {
     }
 
     fn next_object(&self) -> ObjNo {
-        ObjNo(self.references.objects.len() as u16)
+        next_object(self)
     }
 
     fn no_number_left(&self) -> bool {
-        self.references.objects.len() == Limits::OBJECTS
+        no_number_left(self)
     }
 
     fn signal_count(&self, thread: ThreadNo) -> u64 {

@@ -89,6 +89,7 @@ pub trait Reads {
 
     /// Whether no number is left for a new object.
     fn no_number_left(&self) -> bool
+        requires { is_readable self.now }
         ensures { result ≡ no_number_left (state self.now) };
 
     /// How many signals are at a thread's fast semaphore.

@@ -7,17 +7,16 @@ use crate::messaging::{Content, open_server, post};
 use entry_log::Holder;
 use machine::{Move, Moves, ServerMove};
 use readings::Reads;
-use state_rows::Way;
+use state_rows::{Connection, Way};
 use sym_base::{ObjNo, ThreadNo};
 
 /// The server of a session, where the session is open.
 fn connected_to<R: Reads>(reads: &R, session: ObjNo) -> Option<ObjNo>
     ensures { result ≡ connected_to (R.state reads.now) session }
 {
-    if reads.session(session)?.is_open {
-        open_server(reads, session)
-    } else {
-        None
+    match reads.session(session)?.connection {
+        Connection::Open => open_server(reads, session),
+        Connection::New | Connection::Closed => None,
     }
 }
 

@@ -4,7 +4,7 @@ ghost use Rattle.std.specs.Prelude.{◌≡◌, ◌<◌, IfSome};
 ghost use Rattle.machine.specs.SessionCalls.{make_session, connect_make, fail_connect, send_connect, connect_send, end_connect, connect_done, session_made, connect_step, connect_return};
 ghost use Rattle.state_rows.specs.HandleNumbers.{index_of};
 
-use crate::messaging::{Content, open_server, post};
+use crate::messaging::{Content, post, server_to_open};
 use entry_log::{Part, Step, Word};
 use machine::{Decision, Move, NewHandle, ServerMove, ThreadRow, Waiting, holder_of};
 use readings::Reads;
@@ -140,7 +140,7 @@ fn connect_send<R: Reads>(
     if refuse_holder(decision, reads, thread, SEND) {
         return;
     }
-    let server = open_server(reads, session);
+    let server = server_to_open(reads, session);
     send_connect(decision, reads, thread, row, session, server)
 }
 

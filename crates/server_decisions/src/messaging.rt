@@ -1,14 +1,14 @@
 //! How messages are sent and finished, in whichever step (Symbian OS Internals, the chapter on inter-process
 //! communication).
 ghost use Rattle.std.specs.Prelude.{◌≡◌, ◌+◌, ◌<◌, ◌≤◌, ◌++◌, length};
-ghost use Rattle.machine.specs.Messaging.{slots_of, open_server, is_receiving, wake_receiver, post, is_refused, close_refused, reply, reply_to, finish};
+ghost use Rattle.machine.specs.Messaging.{slots_of, open_server, server_to_open, is_receiving, wake_receiver, post, is_refused, close_refused, reply, reply_to, finish};
 ghost use Rattle.machine.specs.Rows.{thread_of};
 ghost use Rattle.state_rows.specs.MessageChanges.{new_row};
 ghost use Rattle.state_rows.specs.ServerRows.{is_closing, owner_of};
 
 use machine::{MessageMove, Move, Moves, RequestMove, ServerMove, ThreadRow, Waiting};
 use readings::Reads;
-use state_rows::{Message, MsgRow, Stage, Way};
+use state_rows::{Connection, Message, MsgRow, Stage, Way};
 use sym_base::{Arg, ObjNo, Slots, ThreadNo};
 use thread_decisions::ends_wait;
 
@@ -64,6 +64,16 @@ pub fn owner_of<R: Reads>(reads: &R, server: ObjNo) -> Option<ThreadNo>
     ensures { result ≡ owner_of (R.state reads.now).serving.servers server }
 {
     Some(reads.server(server)?.owner)
+}
+
+/// The server that accepts the message that opens a session: that of `open_server`, where the session is to be opened.
+pub fn server_to_open<R: Reads>(reads: &R, session: ObjNo) -> Option<ObjNo>
+    ensures { result ≡ server_to_open (R.state reads.now) session }
+{
+    match reads.session(session)?.connection {
+        Connection::New => open_server(reads, session),
+        Connection::Open | Connection::Closed => None,
+    }
 }
 
 /// The server that accepts the messages of a session: the one that the session is linked to, unless it is closing.

@@ -36,12 +36,12 @@ pub fn seek<R: Reads>(
     seek_object(decision, thread, word, reads.find(kind, name))
 }
 
-/// Whether an object may be opened: it is there and isn't dead.
-fn is_open(row: Option<ObjectRow>) -> bool
-    ensures { result ≡ is_open row }
+/// Whether the object of a place may be opened: it is there and isn't dead. At its number another object may stand since.
+fn is_open(place: u64, row: Option<ObjectRow>) -> bool
+    ensures { result ≡ is_open place row }
 {
     match row {
-        Some(row) => !row.dead,
+        Some(row) => !row.dead && row.place == place,
         None => false,
     }
 }
@@ -59,7 +59,7 @@ pub fn return_to<R: Reads>(
 {
     let step = Step::Of(word, Part::Return);
     let object = found_object(row);
-    if is_open(reads.object(object)) {
+    if is_open(row.sought, reads.object(object)) {
         return one_move(decision, step, Move::Open(thread, object, next));
     }
     let missed = Move::Miss(thread, object);

@@ -18,9 +18,14 @@ returns-in-Some c = λ actor known same. c.interrupt_of.ensures ∙ irq_is c.arg
 
 pub returns-in-Some-behind : goal.returns-in-Some-behind
 returns-in-Some-behind c = λ actor known same.
-    c.thread_of.ensures ∙ thread_is c.args.word.now c.in-Some-behind.number.now actor known same (sym c.is_word.ensures ∙ c.if-is_word.false) c.in-Some-behind.ensures
+    c.thread_of.ensures
+    ∙ thread_is c.args.word.now c.in-Some-behind.number.now actor known same
+    (sym c.is_word.ensures ∙ c.if-is_word.false) c.in-Some-behind.ensures
 
 pub returns-in-None : goal.returns-in-None
 returns-in-None c = λ actor known same.
-    absurd (one_is actor (ap (λ (word : List ℕ). bytes_eq word (codes "idfc")) (sym same) ∙ sym c.is_word-2.ensures ∙ c.if-is_word-2.false) (ap (λ (word : List ℕ). bytes_eq word (codes "idle")) (sym same) ∙ sym c.is_word-3.ensures ∙ c.if-is_word-3.false)
-    (λ begins. c.in_default.ensures (subst (λ (word : List ℕ). Begins word (codes "irq")) (sym same) begins)) (λ begins. c.in-None.ensures (subst (λ (word : List ℕ). Begins word (codes "t")) (sym same) begins)))
+    absurd (one_is actor (ap (λ (word : List ℕ). bytes_eq word (codes "idfc")) (sym same) ∙ sym c.is_word-2.ensures
+    ∙ c.if-is_word-2.false) (ap (λ (word : List ℕ). bytes_eq word (codes "idle")) (sym same) ∙ sym c.is_word-3.ensures
+    ∙ c.if-is_word-3.false)
+    (λ begins. c.in_default.ensures (subst (λ (word : List ℕ). Begins word (codes "irq")) (sym same) begins))
+    (λ begins. c.in-None.ensures (subst (λ (word : List ℕ). Begins word (codes "t")) (sym same) begins)))

@@ -5,16 +5,20 @@ use Rattle.history_check.proofs.parts.history_of.Goals as goal
 
 pub returns-then-is_end-clause-script : goal.returns-then-is_end-clause-script
 returns-then-is_end-clause-script c =
-    let parts = parted_end c.args.input.now c.loop-line.rest.now c.in-Some.line.now c.in-Some.behind.now c.loop-line.invariant c.in-Some.ensures.parts (sym c.is_end.ensures ∙ c.if-is_end.true) in
+    let parts = parted_end c.args.input.now c.loop-line.rest.now c.in-Some.line.now c.in-Some.behind.now
+    c.loop-line.invariant c.in-Some.ensures.parts (sym c.is_end.ensures ∙ c.if-is_end.true) in
     parts.script
 
 pub returns-then-is_end-clause-history : goal.returns-then-is_end-clause-history
 returns-then-is_end-clause-history c =
-    let parts = parted_end c.args.input.now c.loop-line.rest.now c.in-Some.line.now c.in-Some.behind.now c.loop-line.invariant c.in-Some.ensures.parts (sym c.is_end.ensures ∙ c.if-is_end.true) in
+    let parts = parted_end c.args.input.now c.loop-line.rest.now c.in-Some.line.now c.in-Some.behind.now
+    c.loop-line.invariant c.in-Some.ensures.parts (sym c.is_end.ensures ∙ c.if-is_end.true) in
     parts.history
 
 pub loop-line-preserved : goal.loop-line-preserved
-loop-line-preserved c = parted_more c.args.input.now c.loop-line.rest.now c.in-Some.line.now c.in-Some.behind.now c.loop-line.invariant c.in-Some.ensures.parts (sym c.is_end.ensures ∙ c.if-is_end.false)
+loop-line-preserved c =
+    parted_more c.args.input.now c.loop-line.rest.now c.in-Some.line.now c.in-Some.behind.now c.loop-line.invariant
+    c.in-Some.ensures.parts (sym c.is_end.ensures ∙ c.if-is_end.false)
 
 pub returns-clause-script : goal.returns-clause-script
 returns-clause-script c =

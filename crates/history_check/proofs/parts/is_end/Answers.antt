@@ -6,12 +6,18 @@ use Rattle.history_check.proofs.parts.is_end.Goals as goal
 pub returns-then-is_word : goal.returns-then-is_word
 returns-then-is_word c =
     let some : 0 < length c.in-Some.word.now = grind (arith, nat_tests) in
-    c.is_blank.ensures ∙ end_is c.loop-word.rest.now c.in-Some.word.now c.in-Some.behind.now c.in-Some.ensures.parts some (sym c.is_word.ensures ∙ c.if-is_word.true) ∙ c.loop-word.invariant
+    c.is_blank.ensures
+    ∙ end_is c.loop-word.rest.now c.in-Some.word.now c.in-Some.behind.now c.in-Some.ensures.parts some
+    (sym c.is_word.ensures ∙ c.if-is_word.true)
+    ∙ c.loop-word.invariant
 
 pub returns-else-is_word : goal.returns-else-is_word
 returns-else-is_word c =
     let some : 0 < length c.in-Some.word.now = grind (arith, nat_tests) in
-    c.if-is_word.false ∙ end_isnt c.loop-word.rest.now c.in-Some.word.now c.in-Some.behind.now c.in-Some.ensures.parts some (sym c.is_word.ensures ∙ c.if-is_word.false) ∙ c.loop-word.invariant
+    c.if-is_word.false
+    ∙ end_isnt c.loop-word.rest.now c.in-Some.word.now c.in-Some.behind.now c.in-Some.ensures.parts some
+    (sym c.is_word.ensures ∙ c.if-is_word.false)
+    ∙ c.loop-word.invariant
 
 pub loop-word-preserved : goal.loop-word-preserved
 loop-word-preserved c =

@@ -18,18 +18,24 @@ overflow_add-line c =
 pub overflow_add-from : goal.overflow_add-from
 overflow_add-from c =
     let plain = c.args.plain.now in
-    let small : c.in-Some.row.object.0 < 4096 = row_number plain.shared plain.script plain.history c.loop-row.from c.in-Some.row _ c.requires.valid c.in-Some.ensures in
+    let small : c.in-Some.row.object.0 < 4096 = row_number plain.shared plain.script plain.history c.loop-row.from
+    c.in-Some.row _ c.requires.valid c.in-Some.ensures in
     omega arith
 
 pub loop-row-preserved : goal.loop-row-preserved
-loop-row-preserved c = told_more c.in-Some.row _ c.in-Some-behind_row.rest.now c.loop-row.invariant c.in-Some.ensures c.known_row.ensures c.in-Some-behind_row.ensures
+loop-row-preserved c =
+    told_more c.in-Some.row _ c.in-Some-behind_row.rest.now c.loop-row.invariant c.in-Some.ensures c.known_row.ensures
+    c.in-Some-behind_row.ensures
 
 pub loop-row-smaller : goal.loop-row-smaller
 loop-row-smaller c = omega (arith, ap length c.in-Some.ensures)
 
 pub returns-in-None : goal.returns-in-None
 returns-in-None c =
-    told_bad c.loop-row.line c.loop-row.invariant (subst (λ (left : List FinalRow). IsBadFrom (row_lines left) c.loop-row.rest.now c.loop-row.line c.loop-row.line) (sym c.in-Some.ensures) (row_missing c.in-Some.row _ c.loop-row.rest.now c.loop-row.line c.known_row.ensures c.in-None.ensures))
+    told_bad c.loop-row.line c.loop-row.invariant
+    (subst (λ (left : List FinalRow). IsBadFrom (row_lines left) c.loop-row.rest.now c.loop-row.line c.loop-row.line)
+    (sym c.in-Some.ensures) (row_missing c.in-Some.row _ c.loop-row.rest.now c.loop-row.line c.known_row.ensures
+    c.in-None.ensures))
 
 pub bad_end-requires : goal.bad_end-requires
 bad_end-requires c =

@@ -6,7 +6,9 @@ use Rattle.history_check.proofs.rows.bad_row.Given as goal
 
 -- the rows so far are told
 abbrev pub invariant-loop-row : goal.invariant-loop-row
-invariant-loop-row l = IsToldSo (final_rows (after_in l.plain.shared l.plain.script l.plain.history)) (rows_from (after_in l.plain.shared l.plain.script l.plain.history) l.from) l.text l.rest l.fn.line l.line
+invariant-loop-row l =
+    IsToldSo (final_rows (after_in l.plain.shared l.plain.script l.plain.history))
+    (rows_from (after_in l.plain.shared l.plain.script l.plain.history) l.from) l.text l.rest l.fn.line l.line
 
 -- each turn has one row fewer to tell
 abbrev pub decreases-loop-row : goal.decreases-loop-row

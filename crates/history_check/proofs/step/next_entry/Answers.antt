@@ -6,7 +6,8 @@ returns-in_default-clause-bad c = no_line c.args.plain.script c.args.plain.histo
 
 pub returns-in_default-actor_of-clause-bad : goal.returns-in_default-actor_of-clause-bad
 returns-in_default-actor_of-clause-bad c =
-    no_actor c.args.plain.script c.args.plain.history c.args.text.now c.in-Some.line.now _ c.requires.valid c.in-Some.ensures.parts c.in_default-actor_of.ensures
+    no_actor c.args.plain.script c.args.plain.history c.args.text.now c.in-Some.line.now _ c.requires.valid
+    c.in-Some.ensures.parts c.in_default-actor_of.ensures
 
 pub returns-clause-next : goal.returns-clause-next
 returns-clause-next c =

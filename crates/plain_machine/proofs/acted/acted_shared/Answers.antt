@@ -20,20 +20,26 @@ acted-requires-clause-shaped c = formed_is_shaped c.args.script.now c.requires.p
 pub acted-requires-clause-allowed : goal.acted-requires-clause-allowed
 acted-requires-clause-allowed c =
     shares_allowed c.args.script.now c.args.history.now c.args.state c.args.ready.now c.args.actor c.args.keep c.requires.plain c.requires.split
+    c.requires.few
 
 pub returns-clause-made : goal.returns-clause-made
 returns-clause-made c =
     let made = c.in_ok-after.ensures in
-    let deathless : c.is_deathless-after.result ≡ is_deathless c.in_ok-after.entry.effects = c.is_deathless-after.ensures ∙ ap is_deathless c.as_slice-2.ensures.effects in
+    let deathless : c.is_deathless-after.result ≡ is_deathless c.in_ok-after.entry.effects =
+    c.is_deathless-after.ensures ∙ ap is_deathless c.as_slice-2.ensures.effects in
     shares_made c.args.script.now c.args.history.now c.args.state c.args.ready.now c.args.actor c.args.keep c.requires.plain c.requires.split
-    c.push.new.self c.in_ok-after.after (keeping c.is_deathless-after.result c.in_ok-after.after) c.in_ok-after.list (c.len.result + 1) c.in_ok-after.entry c.copied-told.result
+    c.push.new.self c.in_ok-after.after (keeping c.is_deathless-after.result c.in_ok-after.after) c.in_ok-after.list
+    (c.len.result + 1) c.in_ok-after.entry c.copied-told.result
     (c.can_act.ensures.able (c.if-not-can_act.false)) (ap (λ (n : ℕ). n + 1) c.len.ensures)
-    (ap (λ (x : State × List ObjNo × Entry). x.0) made) (ap (λ (b : Bool). keeping b c.in_ok-after.after) deathless) (ap (λ (x : State × List ObjNo × Entry). x.1) made) (ap (λ (x : State × List ObjNo × Entry). x.2) made)
+    (ap (λ (x : State × List ObjNo × Entry). x.0) made) (ap (λ (b : Bool). keeping b c.in_ok-after.after) deathless)
+    (ap (λ (x : State × List ObjNo × Entry). x.1) made) (ap (λ (x : State × List ObjNo × Entry). x.2) made)
     c.in_ok-push.ensures.ok c.copied-told.ensures
 
 pub returns-then-not-can_act-clause-barred : goal.returns-then-not-can_act-clause-barred
 returns-then-not-can_act-clause-barred c =
     record {
       history = refl;
-      cannot = shares_barred c.args.script.now c.args.history.now c.args.state c.args.ready.now c.args.actor c.args.keep c.requires.plain c.requires.split c.can_act.result (c.if-not-can_act.true) c.can_act.ensures.only;
+      cannot =
+          shares_barred c.args.script.now c.args.history.now c.args.state c.args.ready.now c.args.actor c.args.keep
+          c.requires.plain c.requires.split c.can_act.result (c.if-not-can_act.true) c.can_act.ensures.only;
     }

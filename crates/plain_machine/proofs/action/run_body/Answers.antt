@@ -10,4 +10,5 @@ run_operations-requires-clause-room c =
     let leave = ap (λ (ms : List Move). length ms) c.as_slice.ensures.moves in
     let few = c.leave_queue.ensures.few in
     let short = subst (λ (ops : List Op). length ops ≤ 4) (sym c.ops_of.ensures) (short_body c.args.script.now c.args.body c.requires.shaped) in
-    room_for_body c.args.thread c.as_slice.result.now c.args.state.now c.make_moves.new.state c.ops_of.result.now (omega arith) short c.requires.room c.in_ok-make_moves.ensures.state
+    room_for_body c.args.thread c.as_slice.result.now c.args.state.now c.make_moves.new.state c.ops_of.result.now
+    (omega arith) short c.requires.room c.in_ok-make_moves.ensures.state
