@@ -98,7 +98,7 @@ pub doom_goes : (script : Script) (S : State) (t : ObjNo) (exit : Exit) → IsSh
 doom_goes script S t exit shaped rows h =
     each_choice_goes script S t (doom t exit) shaped
     (λ keep. record { rows = rows-keeping script S keep rows; inside = inside S.references.threads t.0 h.row h.is })
-    (inr refl) (λ keep. goes (keeping keep S) (rows-keeping script S keep rows) h.is h.free) (omega arith)
+    (inr refl) (λ keep. goes (keeping keep S) (rows-keeping script S keep rows) h.is h.free) (omega arith) (omega arith)
   where
     goes : (T : State) → AreRows script T → thread_of T t ≡ Some h.row → is_protected T.synchronization.nano t ≡ false → Goes script t T (doom t exit)
     goes T here is free =

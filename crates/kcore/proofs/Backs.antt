@@ -1,8 +1,8 @@
 -- Returns of threads that are out.
-use Rattle.std.proofs.Common.{◌≡◌, ◌∙◌, ℕ, ◌%◌, ◌≤◌, Bool, true, false, List, [], ◌∷◌, length, get_or, inl, inr, arith, refl, sym, ap, subst, Option, Some, None}
-use Rattle.std.specs.Prelude.{not, slice_get}
-use Rattle.std.proofs.lemmas.Bool.{cases_lt}
-use Rattle.std.proofs.lemmas.List.{get_or_past}
+use Rattle.std.proofs.Common.{◌≡◌, ◌∙◌, ℕ, ◌<◌, Bool, true, false, List, [], ◌∷◌, inr, arith, refl, sym, ap, subst, Option, Some, None}
+use Rattle.std.specs.Prelude.{◌&&◌, ◌==◌, not, slice_get}
+use Rattle.std.specs.List.{slice_index_or}
+use Rattle.std.proofs.lemmas.Bool.{and_from, and_parts, eq-eqb, eqb-true, not-true}
 use Rattle.sym_base.specs.declared.number.ObjNo.{ObjNo}
 use Rattle.sym_base.specs.declared.word.Word.{Word}
 use Rattle.script_types.specs.declared.script.Script.{Script}
@@ -13,7 +13,8 @@ use Rattle.entry_log.specs.declared.effect.Effect.{Effect}
 use Rattle.entry_log.specs.declared.step.Part.{Part}
 use Rattle.entry_log.specs.declared.step.Part.TheVariants as part
 use Rattle.entry_log.specs.declared.step.Step.TheVariants.{Of}
-use Rattle.objects.specs.Rows.{is_alive}
+use Rattle.objects.specs.Rows.{HasAlive, StandsAt, is_alive}
+use Rattle.state_rows.specs.ObjectRows.{place_of}
 use Rattle.state_rows.specs.declared.object.ObjectRow.{ObjectRow}
 use Rattle.state_rows.specs.declared.thread.ThreadRow.{ThreadRow}
 use Rattle.machine.specs.declared.decision.Decision.{Decision}
@@ -25,14 +26,15 @@ use Rattle.machine.specs.declared.state.State.{State}
 use Rattle.machine.specs.Bodies.{decision_by, run_dfc, run_idfc, step_of_body}
 use Rattle.machine.specs.Find.{is_open, miss, return_to}
 use Rattle.machine.specs.History.{keeping}
-use Rattle.machine.specs.Out.{found_object}
+use Rattle.machine.specs.Out.{found_object, seeks}
 use Rattle.machine.specs.References.{total}
 use Rattle.machine.specs.Rows.{object_of}
 use Rattle.machine.specs.Steps.{decision_of}
 use Rattle.machine.specs.ThreadCalls.{is_live}
 use Rattle.machine.specs.WellFormed.{AreRows, IsAlive}
 use Rattle.move_laws.proofs.Lists.Cases.{if_cases}
-use Rattle.move_laws.proofs.References.Same.{same_object}
+use Rattle.move_laws.proofs.Lists.Totals.{total_any}
+use Rattle.machine_laws.proofs.Sharing.Seekers.{seeks-one}
 use Rattle.machine_laws.proofs.Reached.AfterHistory.{rows-keeping}
 use Rattle.machine_laws.proofs.Reached.Choices.{decision-same}
 use Rattle.next_actions.specs.Planned.{planned}
@@ -44,23 +46,34 @@ use Rattle.kernel_tables.proofs.GoingMoves.{opening_bit}
 use Rattle.kcore.specs.Done.{WasMade}
 use Rattle.kcore.specs.Sending.{ReturnsTo, part_in}
 
--- what may be opened is alive
-pub open_alive : (row : Option ObjectRow) → is_open row ≡ is_alive row
-open_alive None = refl
-open_alive (Some row) = refl
+-- what may be opened is alive and has the place
+pub open_alive : (place : ℕ) (row : Option ObjectRow) → is_open place row ≡ true → IsAlive row × (place_of row ≡ place)
+open_alive place None opened = absurd (cc)
+open_alive place (Some row) opened =
+    let parts = and_parts (not row.dead) (row.place == place) opened in
+    (not-true row.dead parts.0, eqb-true row.place place parts.1)
 
-pub alive_row : (row : Option ObjectRow) → is_alive row ≡ true → IsAlive row
-alive_row None alive = absurd (cc)
-alive_row (Some row) alive = by row.dead alive
+-- an object of a place that has one number only isn't alive, if what has that number isn't alive or has another place
+pub none_held : (rows : List (Option ObjectRow)) (p : ℕ) (o : ObjNo) → StandsAt rows p o.0
+    → is_open p (slice_index_or rows o.0 None) ≡ false → HasAlive rows p → ⊥
+none_held rows p o stands shut held = by (slice_index_or rows held.0 None) refl
   where
-    by : (dead : Bool) → not dead ≡ true → dead ≡ false
-    by true e = absurd (cc)
-    by false e = refl
+    by : (x : Option ObjectRow) → slice_index_or rows held.0 None ≡ x → ⊥
+    by None is = let alive : is_alive None ≡ true = ap is_alive (sym is) ∙ held.1 in absurd (cc)
+    by (Some row) is =
+        let place : row.place ≡ p = ap place_of (sym is) ∙ held.2 in
+        let alive : not row.dead ≡ true = ap is_alive (sym is) ∙ held.1 in
+        let here : held.0 ≡ o.0 = stands held.0 row is place in
+        let opened : is_open p (Some row) ≡ true = and_from (not row.dead) (row.place == p) alive (eq-eqb row.place p place) in
+        let at : slice_index_or rows o.0 None ≡ Some row = ap (λ (k : ℕ). slice_index_or rows k None) (sym here) ∙ is in
+        let closed : is_open p (Some row) ≡ false = ap (is_open p) (sym at) ∙ shut in
+        absurd (cc)
 
 -- a return's step tells that it is one, and no body's does
 return_step : (S : State) (t : ObjNo) (row : ThreadRow) (word : Word) (p : Part) → (return_to S t row word p).step ≡ Of word part.Return
 return_step S t row word p =
-    if_cases (λ (d : Decision). d.step ≡ Of word part.Return) (is_open (object_of S (found_object row))) _ _ (λ _. refl) (λ _. missed (is_live row.stage))
+    if_cases (λ (d : Decision). d.step ≡ Of word part.Return) (is_open row.sought (object_of S (found_object row))) _ _
+    (λ _. refl) (λ _. missed (is_live row.stage))
   where
     missed : (live : Bool) → (miss t word (found_object row) live).step ≡ Of word part.Return
     missed true = refl
@@ -88,37 +101,45 @@ return_decided script S t row word p decision None is returns = is
 return_decided script S t row word p decision (Some body) is returns =
     absurd (body_apart script body word (ap (λ (d : Decision). d.step) (is ∙ returns) ∙ return_step S t row word p))
 
--- its moves: it opens what is alive, or opens nothing
-pub opens_alive : (script : Script) (S : State) (t o : ObjNo) (h : ReturnsTo script S t o)
-    → is_alive (object_of S o) ≡ true → (decision_of script S t).moves ≡ Open t o h.part ∷ []
-opens_alive script S t o h alive =
-    let here : is_open (object_of S (found_object h.back.row)) ≡ true =
-    open_alive (object_of S (found_object h.back.row))
-    ∙ ap (λ (x : ObjNo). is_alive (object_of S x)) h.back.found
-    ∙ alive in
+-- its moves: it opens what is alive and has the place that it found, or opens nothing
+pub opens : (script : Script) (S : State) (t : ObjNo) (p : ℕ) (object : ObjNo) (h : ReturnsTo script S t p) → object ≡ found_object h.back.row
+    → is_open p (object_of S object) ≡ true → (decision_of script S t).moves ≡ Open t object h.part ∷ []
+opens script S t p object h is opened =
+    let row = h.back.row in
+    let here : is_open row.sought (object_of S (found_object row)) ≡ true =
+    ap (λ (n : ℕ). is_open n (object_of S (found_object row))) h.sought
+    ∙ ap (λ (x : ObjNo). is_open p (object_of S x)) (sym is)
+    ∙ opened in
     ap (λ (d : Decision). d.moves) h.decides
-    ∙ if_cases (λ (d : Decision). d.moves ≡ Open t (found_object h.back.row) h.part ∷ [])
-    (is_open (object_of S (found_object h.back.row))) _ _ (λ _. refl) (λ shut. absurd (cc))
-    ∙ ap (λ (x : ObjNo). Open t x h.part ∷ []) h.back.found
+    ∙ if_cases (λ (d : Decision). d.moves ≡ Open t (found_object row) h.part ∷ [])
+    (is_open row.sought (object_of S (found_object row))) _ _ (λ _. refl) (λ shut. absurd (cc))
+    ∙ ap (λ (x : ObjNo). Open t x h.part ∷ []) (sym is)
 
-pub opens_gone : (script : Script) (S : State) (t o : ObjNo) (h : ReturnsTo script S t o)
-    → is_alive (object_of S o) ≡ false → total opening_bit (decision_of script S t).moves ≡ 0
-opens_gone script S t o h dead =
-    let here : is_open (object_of S (found_object h.back.row)) ≡ false =
-    open_alive (object_of S (found_object h.back.row))
-    ∙ ap (λ (x : ObjNo). is_alive (object_of S x)) h.back.found
-    ∙ dead in
+pub opens_nothing : (script : Script) (S : State) (t : ObjNo) (p : ℕ) (object : ObjNo) (h : ReturnsTo script S t p) → object ≡ found_object h.back.row
+    → is_open p (object_of S object) ≡ false → total opening_bit (decision_of script S t).moves ≡ 0
+opens_nothing script S t p object h is shut =
+    let row = h.back.row in
+    let here : is_open row.sought (object_of S (found_object row)) ≡ false =
+    ap (λ (n : ℕ). is_open n (object_of S (found_object row))) h.sought
+    ∙ ap (λ (x : ObjNo). is_open p (object_of S x)) (sym is)
+    ∙ shut in
     ap (λ (d : Decision). total opening_bit d.moves) h.decides
-    ∙ if_cases (λ (d : Decision). total opening_bit d.moves ≡ 0) (is_open (object_of S (found_object h.back.row))) _ _
-    (λ opened. absurd (cc)) (λ _. missed (is_live h.back.row.stage))
+    ∙ if_cases (λ (d : Decision). total opening_bit d.moves ≡ 0) (is_open row.sought (object_of S (found_object row))) _ _
+    (λ opened. absurd (cc)) (λ _. missed (is_live row.stage))
   where
     missed : (live : Bool) → total opening_bit (miss t h.word (found_object h.back.row) live).moves ≡ 0
     missed true = refl
     missed false = refl
 
--- the number of an object that is out has 16 bits
-pub number_kept : (script : Script) (S : State) (t o : ObjNo) (n : ℕ) → ReturnsTo script S t o → n ≡ o.0 % 65536 → o.0 ≡ n
-number_kept script S t o n h is = let found : h.back.row.found % 65536 ≡ o.0 = ap (λ (x : ObjNo). x.0) h.back.found in omega arith
+-- an object of the place that a thread found has the number that it found
+pub stands-at : (script : Script) (S : State) (t : ObjNo) (p : ℕ) (object : ObjNo) → AreRows script S → (h : ReturnsTo script S t p)
+    → object ≡ found_object h.back.row → StandsAt S.references.objects p object.0
+stands-at script S t p object rows h is k row at place =
+    let one = seeks-one S t h.found h.back in
+    let most = total_any (seeks h.found h.back.row.sought) S.references.threads t.0 None refl in
+    let here : 0 < total (seeks h.found row.place) S.references.threads =
+    subst (λ (n : ℕ). 0 < total (seeks h.found n) S.references.threads) (h.sought ∙ sym place) (omega arith) in
+    rows.references.places.found h.found k row at here ∙ ap (λ (x : ObjNo). x.0) (sym h.back.found ∙ sym is)
 
 -- what moves leave is in order with either choice
 pub runs_keeping : (script : Script) (S : State) (t : ObjNo) (keep : Bool) → IsShaped script → AreRows script S
@@ -144,25 +165,14 @@ made-like script t d e a b new effects state ready same made = record {
       made.performed));
 }
 
--- a place beyond the numbers of objects has none that is alive
-pub gone_there : (rows : List (Option ObjectRow)) (p n : ℕ) → length rows ≤ 4096 → n ≡ p % 65536
-    → is_alive (get_or rows n None) ≡ false → is_alive (get_or rows p None) ≡ false
-gone_there rows p n few is dead = elim (cases_lt p (length rows)) as (λ _. is_alive (get_or rows p None) ≡ false) [
-  | inl inside ↦ (let same : n ≡ p = omega arith in subst (λ (k : ℕ). is_alive (get_or rows k None) ≡ false) same dead)
-  | inr past ↦ ap is_alive (get_or_past rows p None past)
-]
-
 -- what was decided opens the note's object
 pub open-moves : (script : Script) (S : State) (t : ObjNo) (p : ℕ) (object : ObjNo) (q : Part) (decision : Decision)
-    → ReturnsTo script S t (record { 0 = p }) → object.0 ≡ p % 65536 → is_alive (object_of S object) ≡ true
+    (h : ReturnsTo script S t p) → object ≡ found_object h.back.row → is_open p (object_of S object) ≡ true
     → decision ≡ decision_of script S t → q ≡ part_in decision.moves → decision.moves ≡ Open t object q ∷ []
-open-moves script S t p object q decision h number alive is parts =
-    let o : ObjNo = record { 0 = p } in
-    let same : object ≡ o = same_object object o (sym (number_kept script S t o object.0 h number)) in
-    let moves : decision.moves ≡ Open t o h.part ∷ [] = ap (λ (d : Decision). d.moves) is
-    ∙ opens_alive script S t o h (subst (λ (x : ObjNo). is_alive (object_of S x) ≡ true) same alive) in
+open-moves script S t p object q decision h number opened is parts =
+    let moves : decision.moves ≡ Open t object h.part ∷ [] = ap (λ (d : Decision). d.moves) is ∙ opens script S t p object h number opened in
     let part_same : q ≡ h.part = parts ∙ ap part_in moves in
-    moves ∙ (ap (λ (x : ObjNo). Open t x h.part ∷ []) (sym same) ∙ ap (λ (r : Part). Open t object r ∷ []) (sym part_same))
+    moves ∙ ap (λ (r : Part). Open t object r ∷ []) (sym part_same)
 
 pub open-runs : (script : Script) (S : State) (t object : ObjNo) (q : Part) (decision : Decision) → IsShaped script
     → AreRows script S → decision ≡ decision_of script S t → decision.moves ≡ Open t object q ∷ []
@@ -172,9 +182,9 @@ open-runs script S t object q decision shaped rows is moves =
     (subst (λ (ms : List Move). MovesRun script t ms S) moves runs).0
 
 -- what was decided opens nothing, if that is gone
-pub miss-goes : (script : Script) (S : State) (t o : ObjNo) (decision : Decision) → IsShaped script → AreRows script S
-    → ReturnsTo script S t o → is_alive (object_of S o) ≡ false → decision ≡ decision_of script S t
-    → ActionGoes script t decision.moves S
-miss-goes script S t o decision shaped rows h gone is =
+pub miss-goes : (script : Script) (S : State) (t : ObjNo) (p : ℕ) (object : ObjNo) (decision : Decision) → IsShaped script → AreRows script S
+    → (h : ReturnsTo script S t p) → object ≡ found_object h.back.row → is_open p (object_of S object) ≡ false
+    → decision ≡ decision_of script S t → ActionGoes script t decision.moves S
+miss-goes script S t p object decision shaped rows h number shut is =
     subst (λ (d : Decision). ActionGoes script t d.moves S) (sym is)
-    (action_goes script S t shaped rows (inr (opens_gone script S t o h gone)))
+    (action_goes script S t shaped rows (inr (opens_nothing script S t p object h number shut)))

@@ -1,5 +1,5 @@
 -- The tables at boot stand for the state at boot, group by group.
-use Rattle.std.proofs.Common.{◌≡◌, ℕ, List, [], ◌∷◌, map, refl, ap, Option, Some}
+use Rattle.std.proofs.Common.{◌≡◌, ℕ, List, [], ◌∷◌, length, map, refl, ap, Option}
 use Rattle.sym_base.specs.declared.number.ObjNo.{ObjNo}
 use Rattle.script_types.specs.declared.script.Script.{Script}
 use Rattle.machine.specs.declared.boot.Born.{Born}
@@ -9,7 +9,7 @@ use Rattle.machine.specs.declared.references.References.{References}
 use Rattle.machine.specs.declared.synchronization.Synchronization.{Synchronization}
 use Rattle.machine.specs.declared.serving.Serving.{Serving}
 use Rattle.machine.specs.declared.services.Services.{Services}
-use Rattle.machine.specs.Boot.{boot, boot_of, born, memory_of, memory_of_row}
+use Rattle.machine.specs.Boot.{boot, boot_of, born, memory_of, memory_of_row, objects_from}
 use Rattle.machine.specs.Choice.{priority_of}
 use Rattle.table_moves.specs.ObjectsView.{ObjectsView}
 use Rattle.kernel_tables.specs.declared.tables.Tables.{Tables}
@@ -36,9 +36,9 @@ all_groups : (S : State) (m : Mode) (r : References) (s : Synchronization) (v : 
 all_groups S m r s v k mode references synchronization serving services = rw (mode, references, synchronization, serving, services) refl
 
 module _ {W N : Type 0} (script : Script) (made : ObjectsView W) (tables : Tables W N) (h : AreTables script (born script) made tables) where
-  references_are : made.rows ≡ map (λ (b : Born). Some b.object) (born script) → (state_of tables).references ≡ (boot script).references
+  references_are : made.rows ≡ objects_from 0 (born script) → made.made ≡ length (born script) → (state_of tables).references ≡ (boot script).references
   unfolding boot_of
-  references_are rows = rw (h.objects, rows, h.empty.handles, h.threads.procs, h.empty.cleanup, none_listed (born script)) refl
+  references_are rows all = rw (h.objects, rows, all, h.empty.handles, h.threads.procs, h.empty.cleanup, none_listed (born script)) refl
 
   synchronization_are : (state_of tables).synchronization ≡ (boot script).synchronization
   unfolding boot_of no_locks
@@ -61,8 +61,8 @@ module _ {W N : Type 0} (script : Script) (made : ObjectsView W) (tables : Table
   unfolding boot_of
   services_are = rw (h.threads.procs, memories_each (born script)) refl
 
-  pub state_is_boot : made.rows ≡ map (λ (b : Born). Some b.object) (born script) → state_of tables ≡ boot script
-  state_is_boot rows =
+  pub state_is_boot : made.rows ≡ objects_from 0 (born script) → made.made ≡ length (born script) → state_of tables ≡ boot script
+  state_is_boot rows all =
       all_groups (boot script) (state_of tables).mode (state_of tables).references (state_of tables).synchronization
       (state_of tables).serving (state_of tables).services h.empty.mode
-      (references_are rows) synchronization_are serving_are services_are
+      (references_are rows all) synchronization_are serving_are services_are

@@ -14,7 +14,7 @@ use Rattle.state_rows.specs.declared.object.ObjectRow.{ObjectRow}
 use Rattle.state_rows.specs.declared.thread.ThreadRow.{ThreadRow}
 use Rattle.machine.specs.declared.mode.Mode.{Mode}
 use Rattle.machine.specs.declared.state.State.{State}
-use Rattle.machine.specs.Boot.{boot, boot_in, ready_at_boot}
+use Rattle.machine.specs.Boot.{boot, boot_in, ready_at_boot, uses_again}
 use Rattle.machine.specs.Choice.{priority_of}
 use Rattle.machine.specs.FinalRows.{final_row, rows_from, rows_of, IsNextRow}
 use Rattle.machine.specs.History.{after_in, IsLegalIn}
@@ -27,7 +27,7 @@ use Rattle.kernel_tables.specs.CoreView.{CoreView}
 use Rattle.kernel_tables.specs.ReadyQueues.{AreReady}
 use Rattle.table_moves.specs.Notes.{IsNoteOut, Notes, no_notes}
 use Rattle.kcore.specs.KernelMode.{Split, Suits, Whole, mode_of}
-use Rattle.kcore.specs.KernelView.{IsKernel, Stands}
+use Rattle.kcore.specs.KernelView.{IsKernel, Stands, places_for}
 use Rattle.kcore.specs.Outgoing.{AreNone, AreNotes}
 use Rattle.kcore.proofs.Goes.{Begins, Follows, begins-fresh, begins-split}
 
@@ -111,7 +111,8 @@ rows-same S a b n (Some row ∷ rest) = ap (λ (l : List FinalRow). final_row (r
 
 rows-at-boot : (script : Script) (a b : Bool) (n : ℕ) → rows_from (boot_in a script) n ≡ rows_from (boot_in b script) n
 rows-at-boot script a b n =
-    rows-same (boot_in a script) (record { shared = a; keep = false }) (record { shared = b; keep = false }) n
+    rows-same (boot_in a script) (record { shared = a; keep = false; reuse = uses_again script.version })
+    (record { shared = b; keep = false; reuse = uses_again script.version }) n
     (drop n (boot_in a script).references.objects)
 
 next-same : (f g : ℕ → List FinalRow) → ((n : ℕ) → f n ≡ g n) → (from : ℕ) (row : Option FinalRow) → IsNextRow f from row → IsNextRow g from row
@@ -168,15 +169,17 @@ begins-out false script [] old mid h suits state ready = begins-fresh false scri
 begins-out false script (e ∷ es) old mid h suits state ready = absurd (suits refl)
 
 -- at boot a core stands for no entry
-pub boot-kernel : {W : Type 0} (script : Script) (core : CoreView W) (room capacity : ℕ) (identity : List ℕ)
-    → IsWellFormed script → room ≤ 131072 → room ≤ capacity → core.state ≡ boot script
-    → AreReady (priority_of (boot script)) (ready_at_boot script) core.ready → core.notes ≡ no_notes identity
+pub boot-kernel : {W : Type 0} (script : Script) (core : CoreView W) (room capacity : ℕ) (identity : List ℕ) (places : ℕ)
+    → places ≡ places_for script.version room → IsWellFormed script → room ≤ 131072 → room ≤ capacity → core.state ≡ boot script
+    → AreReady (priority_of (boot script)) (ready_at_boot script) core.ready → core.notes ≡ no_notes identity places
     → IsKernel script [] core 0 room capacity
-boot-kernel script core room capacity identity valid few fits state queues notes =
+boot-kernel script core room capacity identity places enough valid few fits state queues notes =
     let alone : core.state.mode.shared ≡ false = ap (λ (S : State). S.mode.shared) state in
     record {
       fits = fits;
       few = few;
+      places = ap (λ (n : Notes). n.places) notes ∙ enough;
+      short = omega arith;
       stands = subst (λ (b : Bool). Stands b script [] core) (sym alone) (record {
         valid = valid;
         legal = tt;

@@ -125,7 +125,7 @@ begins-alone script history core valid h = record {
 
 -- where callers share it, in the core once it is told so
 shares : (S : State) → S.mode.shared ≡ true → sharing S ≡ keeping true S
-shares S is = ap (λ (b : Bool). record S { mode = record { shared = b; keep = true } }) (sym is)
+shares S is = ap (λ (b : Bool). record S { mode = record S.mode { shared = b; keep = true } }) (sym is)
 
 queues-shared : {W : Type 0} (old mid : CoreView W) (qs : List ObjNo) → mid.state ≡ sharing old.state
     → mid.ready ≡ old.ready → AreReady (priority_of old.state) qs old.ready

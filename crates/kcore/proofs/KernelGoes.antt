@@ -1,6 +1,7 @@
 -- What a kernel keeps over an action, where one caller calls it alone and where callers share it.
-use Rattle.std.proofs.Common.{◌≡◌, ◌∙◌, ℕ, ◌+◌, ◌<◌, ◌≤◌, Bool, true, false, List, [], ◌∷◌, ◌++◌, length, arith, sym, ap, subst, Option, Some}
-use Rattle.std.specs.Prelude.{IfSome}
+use Rattle.std.proofs.Common.{◌≡◌, ◌∙◌, ℕ, ◌+◌, ◌<◌, ◌≤◌, Bool, true, false, List, [], ◌∷◌, ◌++◌, length, length-append, arith, sym, ap, subst, Option, Some}
+use Rattle.std.specs.Prelude.{IfSome, if◌then◌else◌}
+use Rattle.sym_base.specs.declared.limits.TheConstants.Limits.{OBJECTS}
 use Rattle.sym_base.specs.declared.number.ObjNo.{ObjNo}
 use Rattle.script_types.specs.declared.script.Script.{Script}
 use Rattle.entry_log.specs.declared.entry.Actor.{Actor}
@@ -11,21 +12,23 @@ use Rattle.ref_words.specs.declared.slip.Slip.{Slip}
 use Rattle.ref_words.specs.Words.{without}
 use Rattle.machine.specs.declared.state.State.{State}
 use Rattle.machine.specs.Arrived.{arrived_in}
-use Rattle.machine.specs.Boot.{boot_in}
+use Rattle.machine.specs.Boot.{boot_in, uses_again}
 use Rattle.machine.specs.Choice.{priority_of}
 use Rattle.machine.specs.History.{after, after_in, choosing, entry_by, transition, CanAct, IsShared}
 use Rattle.machine.specs.Out.{is_out}
 use Rattle.machine.specs.SharedRun.{is_return}
-use Rattle.machine_laws.proofs.Reached.Modes.{shared-after}
+use Rattle.machine_laws.proofs.Reached.Makings.{made-after}
+use Rattle.machine_laws.proofs.Reached.Modes.{reuse-after, shared-after}
+use Rattle.script_types.specs.Source.{IsWellFormed}
 use Rattle.machine_safe.specs.FindsAndReturns.{is_out_actor}
-use Rattle.kernel_tables.specs.Choosing.{sharing}
+use Rattle.kernel_tables.specs.Choosing.{HasRoom, sharing}
 use Rattle.kernel_tables.specs.CoreView.{CoreView}
 use Rattle.kernel_tables.specs.ReadyQueues.{AreReady}
 use Rattle.table_moves.specs.Notes.{IsNoteOut, Notes, notes_back}
 use Rattle.kcore.specs.Acting.{Went}
 use Rattle.kcore.specs.Finds.{finder, found_in, note_of}
 use Rattle.kcore.specs.KernelMode.{Split, Suits, Whole, mode_of}
-use Rattle.kcore.specs.KernelView.{IsKernel, Stands}
+use Rattle.kcore.specs.KernelView.{IsKernel, Stands, places_for}
 use Rattle.kcore.specs.OneMore.{IsFinder, OneMore, ReturnsBy, SendsOut}
 use Rattle.kcore.specs.Outgoing.{AreNone, AreNotes}
 use Rattle.kcore.specs.Sending.{MaySend, notes_after, slip_after}
@@ -34,6 +37,15 @@ use Rattle.kcore.proofs.BothWays.{alone-of, begins-out, follows-of, mode-push, n
 use Rattle.kcore.proofs.Goes.{Begins, Follows, begins-alone, follows, tale}
 use Rattle.kcore.proofs.NotesOut.{back, notes-taken, return-finds-none}
 use Rattle.kcore.proofs.OutKernel.{finder-next, may-send, note-next, notes-next, out-may, was-out}
+
+-- the words have a place for what the next entry makes
+pub place-left : (shared : Bool) (script : Script) (history : List Entry) (notes : Notes) (room : ℕ) → IsWellFormed script
+    → length history ≤ room → notes.places ≡ places_for script.version room → HasRoom notes (after_in shared script history)
+place-left shared script history notes room valid short places again =
+    let few = made-after shared script history valid in
+    let mode : uses_again script.version ≡ true = sym (reuse-after script (boot_in shared script) history) ∙ again in
+    let enough : notes.places ≡ room + 128 = places ∙ ap (λ (b : Bool). if b then room + 128 else OBJECTS) mode in
+    omega arith
 
 -- where one caller calls the kernel alone
 module _ {W : Type 0} (script : Script) (history : List Entry) (old : CoreView W) (out room capacity : ℕ)
@@ -65,10 +77,12 @@ module _ {W : Type 0} (script : Script) (history : List Entry) (old : CoreView W
         (tale false script history old alone-begins new core actor went
         ∙ ap (λ (S : State). entry_by script S (length history + 1) actor) (no_choice script history went.entry))
 
-    pub alone-kernel : (more : ℕ) → capacity ≤ more → core.notes ≡ old.notes → IsKernel script new core out room more
-    alone-kernel more larger notes = record {
+    pub alone-kernel : (more : ℕ) → capacity ≤ more → core.notes ≡ old.notes → length history < room → IsKernel script new core out room more
+    alone-kernel more larger notes left = record {
       fits = let fits = k.fits in omega arith;
       few = k.few;
+      places = ap (λ (n : Notes). n.places) notes ∙ k.places;
+      short = let long = ap length went.longer ∙ length-append history (went.entry ∷ []) in omega arith;
       stands =
           subst (λ (b : Bool). Stands b script new core) (sym alone-shared)
           (record {
@@ -124,9 +138,9 @@ module _ {W : Type 0} (script : Script) (history : List Entry) (old mid : CoreVi
 
     -- it stands for the longer history, with these notes
     pub out-kernel : (last : CoreView W) (n larger : ℕ) → last.state ≡ core.state → last.ready ≡ core.ready
-        → AreNotes new (after_in true script new) last.notes → n ≡ length last.notes.out → capacity ≤ larger
-        → IsKernel script new last n room larger
-    out-kernel last n larger same_state same_ready are counted more_room =
+        → AreNotes new (after_in true script new) last.notes → n ≡ length last.notes.out → last.notes.places ≡ mid.notes.places → capacity ≤ larger
+        → length history < room → IsKernel script new last n room larger
+    out-kernel last n larger same_state same_ready are counted same_places more_room left =
         let shared : last.state.mode.shared ≡ true = ap (λ (T : State). T.mode.shared) same_state ∙ out-shared in
         let at : last.state ≡ after_in true script new = same_state ∙ out-follows.state in
         let here : AreReady (priority_of last.state) (arrived_in true script new) core.ready =
@@ -135,6 +149,8 @@ module _ {W : Type 0} (script : Script) (history : List Entry) (old mid : CoreVi
         record {
           fits = let fits = k.fits in omega arith;
           few = k.few;
+          places = same_places ∙ ap (λ (n : Notes). n.places) notes ∙ k.places;
+          short = let long = ap length went.longer ∙ length-append history (went.entry ∷ []) in omega arith;
           stands = subst (λ (b : Bool). Stands b script new last) (sym shared) (record {
             valid = k.stands.valid;
             legal = out-follows.legal;
@@ -160,27 +176,31 @@ module _ {W : Type 0} (script : Script) (history : List Entry) (old mid : CoreVi
           subst (λ (n : Notes). IfSome found (λ o. MaySend n core.state o)) (sym kept) same
 
       pub out-notes-next : (found : Option ObjNo) → found ≡ found_in went.entry.effects
-          → AreNotes new (after_in true script new) (notes_after (slip_after found core.notes) core.notes)
+          → AreNotes new (after_in true script new) (notes_after (slip_after core.state found core.notes) core.notes)
       out-notes-next found is =
           let here = notes-next script history went.entry k.stands.valid out-begins.legal more told mid.notes out-notes stays-there found is in
           let there = subst (λ (es : List Entry). AreNotes es (after_in true script es)
-          (notes_after (slip_after found mid.notes) mid.notes)) (sym went.longer) here in
-          subst (λ (n : Notes). AreNotes new (after_in true script new) (notes_after (slip_after found n) n)) (sym kept) there
+          (notes_after (slip_after (after_in true script es) found mid.notes) mid.notes)) (sym went.longer) here in
+          subst (λ (T : State). AreNotes new (after_in true script new) (notes_after (slip_after T found core.notes) core.notes)) (sym out-follows.state)
+          (subst (λ (n : Notes). AreNotes new (after_in true script new) (notes_after (slip_after (after_in true script new) found n) n)) (sym kept) there)
 
       pub out-sends : (found : Option ObjNo) (sent : Option Slip) → found ≡ found_in went.entry.effects → sent
-          ≡ slip_after found core.notes → SendsOut script history new actor sent
+          ≡ slip_after core.state found core.notes → SendsOut script history new actor sent
       out-sends found sent is slip =
-          let slips : sent ≡ slip_after found mid.notes = slip ∙ ap (slip_after found) kept in
+          let T : State = after_in true script (history ++ went.entry ∷ []) in
+          let same : core.state ≡ T = out-follows.state ∙ ap (after_in true script) went.longer in
+          let slips : sent ≡ slip_after T found mid.notes = slip ∙ ap (slip_after core.state found) kept
+          ∙ ap (λ (U : State). slip_after U found mid.notes) same in
           let note = note-next script history went.entry k.stands.valid out-begins.legal more told mid.notes out-notes stays-there found is in
           let finder = finder-next script history went.entry k.stands.valid out-begins.legal more told mid.notes out-notes stays-there found is in
           record {
             more = out-more;
             forth = back script history went.entry k.stands.valid out-begins.legal more ∙ stays-there;
-            note = slips ∙ (note ∙ ap (λ (es : List Entry). note_of es went.entry.effects) (sym went.longer));
+            note = slips ∙ (note ∙ ap (λ (es : List Entry). note_of (after_in true script es) es went.entry.effects) (sym went.longer));
             finder =
                 subst (λ (s : Option Slip). IfSome s (IsFinder new actor)) (sym slips)
-                (subst (λ (a : Actor). IfSome (slip_after found mid.notes) (IsFinder new a)) acts
-                (subst (λ (es : List Entry). IfSome (slip_after found mid.notes) (IsFinder es went.entry.actor))
+                (subst (λ (a : Actor). IfSome (slip_after T found mid.notes) (IsFinder new a)) acts
+                (subst (λ (es : List Entry). IfSome (slip_after T found mid.notes) (IsFinder es went.entry.actor))
                 (sym went.longer) finder));
           }
 

@@ -20,7 +20,8 @@ use Rattle.machine.specs.declared.state.State.{State}
 use Rattle.machine.specs.Boot.{boot_in}
 use Rattle.machine.specs.History.{after_in, choosing, transition, IsShared}
 use Rattle.machine.specs.Out.{is_out, is_returning, part_of, seeks}
-use Rattle.machine.specs.Rows.{thread_of}
+use Rattle.machine.specs.Rows.{object_of, thread_of}
+use Rattle.state_rows.specs.ObjectRows.{place_of}
 use Rattle.machine.specs.SharedRun.{is_return}
 use Rattle.machine.specs.Told.{finds}
 use Rattle.move_laws.proofs.References.Same.{same_object}
@@ -100,9 +101,9 @@ is-out true true shared is = refl
 is-out true false shared is = absurd (cc)
 is-out false b shared is = absurd (cc)
 
-pub out-of : (S : State) (u o : ObjNo) → S.mode.shared ≡ true → 0 < seeks o (thread_of S u) → is_out S u ≡ true
-out-of S u o shared some =
-    let out = out-on S u o some in
+pub out-of : (S : State) (u o : ObjNo) (place : ℕ) → S.mode.shared ≡ true → 0 < seeks o place (thread_of S u) → is_out S u ≡ true
+out-of S u o place shared some =
+    let out = out-on S u o place some in
     let back : is_returning (part_of (thread_of S u)) ≡ true = ap (λ (x : Option ThreadRow). is_returning (part_of x)) out.is ∙ out.returns in
     is-out S.mode.shared (is_returning (part_of (thread_of S u))) shared back
 
@@ -115,24 +116,24 @@ by-thread : (t : ObjNo) → is_by t (Thread t) ≡ true
 by-thread t = eq-eqb t.0 t.0 refl
 
 -- whoever is out isn't an actor that isn't
-pub apart : (S : State) (u o : ObjNo) (actor : Actor) → S.mode.shared ≡ true → is_out_actor S actor ≡ false
-    → 0 < seeks o (thread_of S u) → is_by u actor ≡ false
-apart S u o actor shared stays some = by (is_by u actor) refl
+pub apart : (S : State) (u o : ObjNo) (place : ℕ) (actor : Actor) → S.mode.shared ≡ true → is_out_actor S actor ≡ false
+    → 0 < seeks o place (thread_of S u) → is_by u actor ≡ false
+apart S u o place actor shared stays some = by (is_by u actor) refl
   where
     by : (b : Bool) → is_by u actor ≡ b → b ≡ false
     by true e =
         let acts = by-actor u actor e in
-        let out = out-of S u o shared some in
+        let out = out-of S u o place shared some in
         let none : is_out S u ≡ false = sym (ap (is_out_actor S) acts) ∙ stays in absurd (cc)
     by false e = refl
 
 -- the thread of a note that is out
 pub note-out : (history : List Entry) (S : State) (notes : Notes) (s : Slip) (t : ObjNo) → AreNotes history S notes
-    → IsNoteOut notes s → finder s.number history ≡ Some t → 0 < seeks (record { 0 = s.place }) (thread_of S t)
+    → IsNoteOut notes s → finder s.number history ≡ Some t → (o : ObjNo) × (0 < seeks o s.place (thread_of S t))
 note-out history S notes s t h out is =
     let n = h.each s out in
     let same_thread : n.thread ≡ t = (let its = n.its in cc) in
-    subst (λ (u : ObjNo). 0 < seeks (record { 0 = s.place }) (thread_of S u)) same_thread n.away
+    (n.found, subst (λ (u : ObjNo). 0 < seeks n.found s.place (thread_of S u)) same_thread n.away)
 
 -- count words with these notes
 abbrev pub words_like : Notes → Words
@@ -211,8 +212,9 @@ module _ (script : Script) (history : List Entry) (e : Entry) (valid : IsWellFor
       → is_by n.thread e.actor ≡ false → IsNoteOf new T s
   note-stays s ts longer n other = record {
     thread = n.thread;
+    found = n.found;
     its = finder-of s.number history new ts n.thread longer n.its;
-    away = let same_out = turn.others n.thread (record { 0 = s.place }) other in let out = n.away in omega arith;
+    away = let same_out = turn.others n.thread n.found s.place other in let out = n.away in omega arith;
   }
 
   -- an entry that finds nothing, of an actor that isn't out, leaves who is out
@@ -227,7 +229,7 @@ module _ (script : Script) (history : List Entry) (e : Entry) (valid : IsWellFor
       record {
         made = h.made ∙ ap length (sym same_finders);
         many = let was = h.many in omega arith;
-        each = λ s out. let n = h.each s out in note-stays s [] longer n (apart S n.thread (record { 0 = s.place }) e.actor shared stays n.away);
+        each = λ s out. let n = h.each s out in note-stays s [] longer n (apart S n.thread n.found s.place e.actor shared stays n.away);
         once = λ s r out other same_find. h.once s r out other (sym (same-finder s.number same_finders) ∙ (same_find ∙ same-finder r.number same_finders));
       }
     where
@@ -242,18 +244,18 @@ module _ (script : Script) (history : List Entry) (e : Entry) (valid : IsWellFor
       ∙ ap (λ (l : List ObjNo). finders history ++ l)
       (ap (finders_by e.actor) is ∙ ap (λ (a : Actor). finders_by a (Some o)) (find o is).acts)
 
-  pub finder-sent : (notes : Notes) (o : ObjNo) → found_in e.effects ≡ Some o → AreNotes history S notes
-      → IsFinder new e.actor (record { place = o.0; number = notes.made + 1 })
-  finder-sent notes o is h = record {
+  pub finder-sent : (notes : Notes) (o : ObjNo) (p : ℕ) → found_in e.effects ≡ Some o → AreNotes history S notes
+      → IsFinder new e.actor (record { place = p; number = notes.made + 1 })
+  finder-sent notes o p is h = record {
     thread = (find o is).thread;
     acts = (find o is).acts;
     its = rw add-one (finder-last notes.made history new (find o is).thread (finders-longer o is) h.made);
   }
 
   -- an entry that finds an object sends a note out
-  pub notes-sent : (notes : Notes) (o : ObjNo) → found_in e.effects ≡ Some o → is_out_actor S e.actor ≡ false
-      → AreNotes history S notes → AreNotes new T (notes_sent notes o.0)
-  notes-sent notes o is stays h =
+  pub notes-sent : (notes : Notes) (o : ObjNo) (p : ℕ) → found_in e.effects ≡ Some o → p ≡ place_of (object_of S o)
+      → is_out_actor S e.actor ≡ false → AreNotes history S notes → AreNotes new T (notes_sent notes p)
+  notes-sent notes o p is at stays h =
       let f = find o is in
       let t = f.thread in
       let longer : finders new ≡ finders history ++ t ∷ [] = finders-longer o is in
@@ -261,7 +263,8 @@ module _ (script : Script) (history : List Entry) (e : Entry) (valid : IsWellFor
       let count = counted in
       let none_back = stays-bit stays in
       let by_t : is_by t e.actor ≡ true = ap (is_by t) f.acts ∙ by-thread t in
-      let own : 0 < seeks o (thread_of T t) = (let out = turn.own t o by_t in let some = found-some e.effects o is in omega arith) in
+      let own : 0 < seeks o p (thread_of T t) =
+      subst (λ (n : ℕ). 0 < seeks o n (thread_of T t)) (sym at) (turn.found t o by_t (let some = found-some e.effects o is in omega arith)) in
       let mine : finder (notes.made + 1) new ≡ Some t = rw add-one (finder-last notes.made history new t longer h.made) in
       record {
         made =
@@ -271,15 +274,15 @@ module _ (script : Script) (history : List Entry) (e : Entry) (valid : IsWellFor
             omega arith;
         many =
             let was = h.many in
-            let grown : length (notes.out ++ record { place = o.0; number = notes.made + 1 } ∷ []) ≡ length notes.out + 1 =
+            let grown : length (notes.out ++ record { place = p; number = notes.made + 1 } ∷ []) ≡ length notes.out + 1 =
             length-append notes.out _ in
             omega arith;
-        each = λ s out. elim (out-before_send (words_like notes) o.0 s out) as (λ _. IsNoteOf new T s) [
-          | inl old ↦ let n = h.each s old in note-stays s (t ∷ []) longer n (apart S n.thread (record { 0 = s.place }) e.actor shared stays n.away)
-          | inr last ↦ subst (IsNoteOf new T) last (record { thread = t; its = mine; away = own })
+        each = λ s out. elim (out-before_send (words_like notes) p s out) as (λ _. IsNoteOf new T s) [
+          | inl old ↦ let n = h.each s old in note-stays s (t ∷ []) longer n (apart S n.thread n.found s.place e.actor shared stays n.away)
+          | inr last ↦ subst (IsNoteOf new T) last (record { thread = t; found = o; its = mine; away = own })
         ];
-        once = λ s r out other same_find. elim (out-before_send (words_like notes) o.0 s out) as (λ _. s ≡ r) [
-          | inl old ↦ elim (out-before_send (words_like notes) o.0 r other) as (λ _. s ≡ r) [
+        once = λ s r out other same_find. elim (out-before_send (words_like notes) p s out) as (λ _. s ≡ r) [
+          | inl old ↦ elim (out-before_send (words_like notes) p r other) as (λ _. s ≡ r) [
             | inl older ↦
                 let a = h.each s old in
                 let b = h.each r older in
@@ -288,7 +291,7 @@ module _ (script : Script) (history : List Entry) (e : Entry) (valid : IsWellFor
                 h.once s r old older (a.its ∙ (sym one ∙ (same_find ∙ (two ∙ sym b.its))))
             | inr last ↦ absurd (fresh s notes t (t ∷ []) longer h old by_t stays (same_find ∙ (ap (λ (x : Slip). finder x.number new) (sym last) ∙ mine)))
           ]
-          | inr last ↦ elim (out-before_send (words_like notes) o.0 r other) as (λ _. s ≡ r) [
+          | inr last ↦ elim (out-before_send (words_like notes) p r other) as (λ _. s ≡ r) [
             | inl older ↦
                 absurd (fresh r notes t (t ∷ []) longer h older by_t stays
                 (sym same_find ∙ (ap (λ (x : Slip). finder x.number new) (sym last) ∙ mine)))
@@ -305,7 +308,7 @@ module _ (script : Script) (history : List Entry) (e : Entry) (valid : IsWellFor
           let n = h.each s old in
           let its = finder-of s.number history new ts n.thread longer n.its in
           let same_thread : n.thread ≡ t = cc in
-          let other = apart S n.thread (record { 0 = s.place }) e.actor shared stays n.away in
+          let other = apart S n.thread n.found s.place e.actor shared stays n.away in
           let acts : is_by n.thread e.actor ≡ true = ap (λ (u : ObjNo). is_by u e.actor) same_thread ∙ by in absurd (cc)
 
   -- a return takes its thread's note back
@@ -317,7 +320,8 @@ module _ (script : Script) (history : List Entry) (e : Entry) (valid : IsWellFor
       ∙ ap (λ (l : List ObjNo). finders history ++ l) (ap (finders_by e.actor) none ∙ finders-none e.actor) in
       let same_finders : finders new ≡ finders history = longer ∙ append-none (finders history) in
       let count = counted in
-      let was_out = out-of S t (record { 0 = s.place }) shared (note-out history S notes s t h out its) in
+      let on = note-out history S notes s t h out its in
+      let was_out = out-of S t on.0 s.place shared on.1 in
       let one_back : bit (is_return e.step) ≡ 1 = ap bit (back ∙ (ap (is_out_actor S) acts ∙ was_out)) in
       let unfound = times-none e.effects none in
       record {

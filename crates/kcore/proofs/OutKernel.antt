@@ -1,6 +1,6 @@
 -- A kernel that callers share: what its actions ask, and what they leave.
 use Rattle.std.proofs.Common.{◌≡◌, ◌∙◌, ℕ, ◌<◌, ◌≤◌, Bool, true, false, List, [], ◌∷◌, ◌++◌, length, length-append, inl, inr, arith, refl, sym, ap, subst, Option, Some, None}
-use Rattle.std.specs.Prelude.{◌&&◌, ◌||◌, ◌==◌, IfSome, IsTrue, option_map}
+use Rattle.std.specs.Prelude.{◌&&◌, ◌||◌, ◌==◌, IfSome, IsTrue, option_map, is_some}
 use Rattle.std.specs.List.{list_any}
 use Rattle.sym_base.specs.declared.number.ObjNo.{ObjNo}
 use Rattle.sym_base.specs.declared.word.Word.TheVariants as word
@@ -50,8 +50,10 @@ use Rattle.machine_safe.proofs.Finders.Actions.{AtFinds, finding, out-on, return
 use Rattle.machine_safe.proofs.Finders.Dormant.{finds-tell}
 use Rattle.machine_safe.proofs.Finders.Runs.{stands-rest}
 use Rattle.machine_safe.proofs.LegalReferences.{stands-boot}
-use Rattle.table_moves.specs.Notes.{IsNoteOut, Notes, notes_back}
-use Rattle.kernel_tables.specs.Choosing.{AreSoughtBeside, MayChoose}
+use Rattle.state_rows.specs.ObjectRows.{place_of}
+use Rattle.table_moves.specs.Notes.{HasNoteOf, IsNoteOut, Notes, notes_back}
+use Rattle.table_moves.specs.ObjectsView.{IsThere}
+use Rattle.kernel_tables.specs.Choosing.{AreNotesMade, AreSoughtBeside, HasRoom, MayChoose}
 use Rattle.kernel_tables.specs.CoreView.{CoreView}
 use Rattle.kernel_tables.specs.Moved.{MovesRun}
 use Rattle.kernel_tables.proofs.GoingActions.{action_runs}
@@ -64,7 +66,7 @@ use Rattle.kcore.proofs.Alone.{alone_after}
 use Rattle.kcore.proofs.FindsOnce.{found-some}
 use Rattle.kcore.proofs.Goes.{Begins}
 use Rattle.kcore.proofs.NotesOut.{append-none, away-found, find, finder-sent, note-out, notes-kept, notes-sent, out-of}
-use Rattle.kcore.proofs.Sought.{few-away, sought, sought-back}
+use Rattle.kcore.proofs.Sought.{back-made, few-away, notes-made, sought, sought-back}
 
 -- who is out is asked of no choice
 pub out-keeping : (S : State) (keep : Bool) (actor : Actor) → is_out_actor (keeping keep S) actor ≡ is_out_actor S actor
@@ -96,43 +98,42 @@ slot-apart script S qs slot.Tick shared formed = refl
 
 -- what asks for the choice, in a core in which an action begins
 pub may-in : {W : Type 0} (script : Script) (history : List Entry) (core : CoreView W) (t : ObjNo) (notes : Notes)
-    → Begins true script history core → AreSoughtBeside t notes (after_in true script history)
-    → MayChoose t notes core.state
-may-in script history core t notes h beside =
+    → Begins true script history core → HasRoom notes (after_in true script history)
+    → AreNotesMade notes (after_in true script history)
+    → AreSoughtBeside t notes (after_in true script history) → MayChoose t notes core.state
+may-in script history core t notes h room made beside =
     let S = after_in true script history in
     let shared : S.mode.shared ≡ true = shared-after script (boot_in true script) history in
     record {
       unchosen = ap (λ (T : State). T.mode.keep) h.state ∙ sym (ap (λ (T : State). T.mode.shared) h.state ∙ shared);
-      sought = subst (AreSoughtBeside t notes) (sym h.state) (λ o has.
-          let was = beside o has in (
-            record {
-              shared = was.0.shared;
-              finder = was.0.finder;
-              back = record {
-                row = was.0.back.row;
-                is = was.0.back.is;
-                returns = was.0.back.returns;
-                found = was.0.back.found;
-              };
-            },
-            was.1,
-          ));
+      room = subst (HasRoom notes) (sym h.state) room;
+      made = subst (AreNotesMade notes) (sym h.state) made;
+      sought = subst (AreSoughtBeside t notes) (sym h.state) (λ o there has.
+          let was = beside o there has in (was.0, record { shared = was.1.shared; out = was.1.out }, was.2));
     }
 
 pub may-shared : {W : Type 0} (script : Script) (history : List Entry) (core : CoreView W) (notes : Notes)
     (actor : Actor)
-    → Begins true script history core → AreNotes history (after_in true script history) notes
+    → Begins true script history core → HasRoom notes (after_in true script history)
+    → AreNotes history (after_in true script history) notes
     → is_out_actor (after_in true script history) actor ≡ false → MayChoose (acting actor) notes core.state
-may-shared script history core notes actor h are stays =
-    may-in script history core (acting actor) notes h (sought script history h.valid h.legal notes actor are stays)
+may-shared script history core notes actor h room are stays =
+    may-in script history core (acting actor) notes h room (notes-made script history h.valid h.legal notes are)
+    (sought script history h.valid h.legal notes actor are stays)
+
+-- no note is out where there is none
+no-note : (notes : Notes) → AreNone notes → (p : ℕ) → HasNoteOf notes p → ⊥
+no-note notes none p has =
+    let clash : IsTrue (list_any (λ (s : Slip). s.place == p) []) = subst (λ (l : List Slip). IsTrue (list_any (λ s. s.place == p) l)) none.out has in
+    cc
 
 pub may-alone : {W : Type 0} (script : Script) (history : List Entry) (core : CoreView W) (notes : Notes) (t : ObjNo)
-    → Begins false script history core → AreNone notes → MayChoose t notes core.state
-may-alone script history core notes t h none = record {
+    → Begins false script history core → HasRoom notes core.state → AreNone notes → MayChoose t notes core.state
+may-alone script history core notes t h room none = record {
   unchosen = ap (λ (T : State). T.mode.keep) h.state ∙ sym (ap (λ (T : State). T.mode.shared) h.state ∙ alone_after script history);
-  sought =
-      λ o has. let clash : IsTrue (list_any (λ (s : Slip). s.place == o.0) []) = subst
-      (λ (l : List Slip). IsTrue (list_any (λ s. s.place == o.0) l)) none.out has in absurd (cc);
+  room = room;
+  made = λ p has. absurd (no-note notes none p has);
+  sought = λ o there has. absurd (no-note notes none (place_of (object_of core.state o)) has);
 }
 
 -- whoever is out returns next
@@ -142,15 +143,18 @@ at-after script history valid legal =
     (stands-boot true script (history ++ []) valid (subst (IsShared script) (sym (append-none history)) legal))).1.at
 
 returns-by : (script : Script) (S : State) (t o : ObjNo) (back : ComesBack S t o) (i : Instr)
-    → finds_by_name (Some i) ≡ true → decision_of script S t ≡ return_of S t back.row i → ReturnsTo script S t o
-returns-by script S t o back (instr.Open kind name x) by_name is = record { back = back; word = word.Open; part = part.Do; decides = is }
-returns-by script S t o back (instr.Connect name slots x) by_name is = record { back = back; word = word.Connect; part = part.Make; decides = is }
+    → finds_by_name (Some i) ≡ true → decision_of script S t ≡ return_of S t back.row i → ReturnsTo script S t back.row.sought
+returns-by script S t o back (instr.Open kind name x) by_name is =
+    record { found = o; back = back; sought = refl; word = word.Open; part = part.Do; decides = is }
+returns-by script S t o back (instr.Connect name slots x) by_name is =
+    record { found = o; back = back; sought = refl; word = word.Connect; part = part.Make; decides = is }
 returns-by script S t o back i by_name is = absurd (cc)
 
-returns-to : (script : Script) (S : State) (t o : ObjNo) → AtFinds script S → is_out S t ≡ true → ComesBack S t o → ReturnsTo script S t o
+returns-to : (script : Script) (S : State) (t o : ObjNo) → AtFinds script S → is_out S t ≡ true
+    → (back : ComesBack S t o) → ReturnsTo script S t back.row.sought
 returns-to script S t o at out back = by (instruction script back.row) refl
   where
-    by : (x : Option Instr) → instruction script back.row ≡ x → ReturnsTo script S t o
+    by : (x : Option Instr) → instruction script back.row ≡ x → ReturnsTo script S t back.row.sought
     by None e = let found = at t back.row back.is back.returns in let none = ap finds_by_name e in absurd (cc)
     by (Some i) e =
         let acts : decision_of script S t ≡ decision_of_row script S t (thread_of S t) (task_of script S t) =
@@ -165,29 +169,32 @@ returns-to script S t o at out back = by (instruction script back.row) refl
 -- so a thread comes back with its note
 pub may-come : {W : Type 0} (script : Script) (history : List Entry) (core : CoreView W) (notes : Notes) (s : Slip)
     (t : ObjNo)
-    → Begins true script history core → AreNotes history (after_in true script history) notes
+    → Begins true script history core → HasRoom notes (after_in true script history)
+    → AreNotes history (after_in true script history) notes
     → finder s.number history ≡ Some t → MayComeBack script s t notes core.state
-may-come script history core notes s t h are its =
+may-come script history core notes s t h room are its =
     let S = after_in true script history in
     let shared : S.mode.shared ≡ true = shared-after script (boot_in true script) history in
-    let o : ObjNo = record { 0 = s.place } in
     record {
       out = λ noted.
-          let some = note-out history S notes s t are noted its in
-          let row = out-on S t o some in
+          let on = note-out history S notes s t are noted its in
+          let o = on.0 in
+          let row = out-on S t o s.place on.1 in
           let T = keeping true S in
           let back : ComesBack T t o = record { row = row.row; is = row.is; returns = row.returns; found = row.found } in
-          subst (λ (U : State). ReturnsTo script U t o) (sym h.state)
-          (returns-to script T t o (at-after script history h.valid h.legal) (out-of S t o shared some) back);
-      rest = λ noted. may-in script history core t (notes_back s notes) h (sought-back script history h.valid h.legal notes s t are noted its);
+          subst (λ (U : State). ReturnsTo script U t s.place) (sym h.state)
+          (subst (ReturnsTo script T t) row.sought
+          (returns-to script T t o (at-after script history h.valid h.legal) (out-of S t o s.place shared on.1) back));
+      rest = λ noted. may-in script history core t (notes_back s notes) h room (back-made script history h.valid h.legal notes s are)
+          (sought-back script history h.valid h.legal notes s t are noted its);
     }
 
 pub was-out : (script : Script) (history : List Entry) (notes : Notes) (s : Slip) (t : ObjNo)
     → AreNotes history (after_in true script history) notes → finder s.number history ≡ Some t → IsNoteOut notes s
     → is_out (after_in true script history) t ≡ true
 was-out script history notes s t are its noted =
-    out-of (after_in true script history) t (record { 0 = s.place }) (shared-after script (boot_in true script) history)
-    (note-out history (after_in true script history) notes s t are noted its)
+    let on = note-out history (after_in true script history) notes s t are noted its in
+    out-of (after_in true script history) t on.0 s.place (shared-after script (boot_in true script) history) on.1
 
 -- a note that is out is one at least
 pub one-noted : (out : List Slip) (s : Slip) → IsTrue (list_any (λ other. same_slip other s) out) → 1 ≤ length out
@@ -207,6 +214,11 @@ finders-few (e ∷ es) =
     let sum = length-append (finders_by e.actor (found_in e.effects)) (finders es) in
     omega arith
 
+-- an object that is there is told so
+some-there : (row : Option ObjectRow) → is_some row ≡ true → IsThere row
+some-there None some = absurd (cc)
+some-there (Some row) some = refl
+
 -- what has no reference isn't alive, if whatever is alive has one
 not-alive : (row : Option ObjectRow) (n : ℕ) → (IsAlive row → 0 < n) → n ≡ 0 → is_alive row ≡ false
 not-alive None n counted none = refl
@@ -217,8 +229,8 @@ not-alive (Some row) n counted none = by row.dead refl
     by false e = let some = counted e in absurd (omega arith)
 
 -- a note of what was found, with a number
-abbrev named : ℕ → Option ObjNo → Option Slip
-named n x = option_map (λ (o : ObjNo). record { place = o.0; number = n }) x
+abbrev named : State → ℕ → Option ObjNo → Option Slip
+named S n x = option_map (λ (o : ObjNo). record { place = place_of (object_of S o); number = n }) x
 
 module _ (script : Script) (history : List Entry) (e : Entry) (valid : IsWellFormed script)
     (legal : IsShared script history) (more : IsShared script (history ++ e ∷ []))
@@ -242,7 +254,8 @@ module _ (script : Script) (history : List Entry) (e : Entry) (valid : IsWellFor
 
   -- what the find of a thread leaves
   record Found (o : ObjNo) : Type 0 where
-    pub made : o.0 < length T.references.objects
+    pub there : IsThere (object_of T o)
+    pub place : place_of (object_of T o) ≡ place_of (object_of S o)
     pub known : count_of T o ≡ 0 → is_alive (object_of T o) ≡ false
 
   found-by : (t o : ObjNo) → e.actor ≡ Thread t → 0 < finds (act script X t).outcome.effects o → Found o
@@ -256,12 +269,13 @@ module _ (script : Script) (history : List Entry) (e : Entry) (valid : IsWellFor
       ∙ (ap (λ (a : Actor). (transition script X a).state) acts ∙ ap (λ (ms : List Move). perform t ms X) f.moves) in
       let runs : MovesRun script t (Find t o ∷ []) X = subst (λ (ms : List Move). MovesRun script t ms X) f.moves (action_runs script X t shaped rows) in
       let refs = runs.0.refs.each o in
-      let inside : o.0 < length X.references.objects = elim (fits-action script X t shaped rows) as (λ _. o.0 < length X.references.objects) [
-        | inl fits ↦ (let each = subst (λ (ms : List Move). EachFits script t ms X) f.moves fits.each in each.0.0.object)
+      let there : IsThere (object_of X o) = elim (fits-action script X t shaped rows) as (λ _. IsThere (object_of X o)) [
+        | inl fits ↦ (let each = subst (λ (ms : List Move). EachFits script t ms X) f.moves fits.each in some-there (object_of X o) each.0.0.object)
         | inr pays ↦ (let clash = sym f.moves ∙ pays.moves in absurd (cc))
       ] in
       record {
-        made = subst (λ (U : State). o.0 < length U.references.objects) (sym left) inside;
+        there = subst (λ (U : State). IsThere (object_of U o)) (sym left) there;
+        place = ap (λ (U : State). place_of (object_of U o)) left;
         known =
             subst (λ (U : State). count_of U o ≡ 0 → is_alive (object_of U o) ≡ false) (sym left)
             (λ none. not-alive (object_of X o) (count_of X o) f.counted (omega arith));
@@ -284,7 +298,7 @@ module _ (script : Script) (history : List Entry) (e : Entry) (valid : IsWellFor
       let made = are.made in
       let finds_few = finders-few history in
       record {
-        made = found.made;
+        there = found.there;
         known = found.known;
         small = count_small script T (well_formed-after true script (history ++ e ∷ []) valid).rows o;
         few_out = omega arith;
@@ -296,20 +310,20 @@ module _ (script : Script) (history : List Entry) (e : Entry) (valid : IsWellFor
   may-send short (Some o) is = may-send-one o short (sym is)
 
   -- the notes behind the entry
-  pub notes-next : (found : Option ObjNo) → found ≡ found_in e.effects → AreNotes (history ++ e ∷ []) T (notes_after (slip_after found notes) notes)
+  pub notes-next : (found : Option ObjNo) → found ≡ found_in e.effects → AreNotes (history ++ e ∷ []) T (notes_after (slip_after T found notes) notes)
   notes-next None is = notes-kept script history e valid legal more notes (sym is) stays are
-  notes-next (Some o) is = notes-sent script history e valid legal more notes o (sym is) stays are
+  notes-next (Some o) is = notes-sent script history e valid legal more notes o (place_of (object_of T o)) (sym is) (found-next o (sym is)).place stays are
 
   -- the note that went out is that of the entry's find
-  pub note-next : (found : Option ObjNo) → found ≡ found_in e.effects → slip_after found notes ≡ note_of (history ++ e ∷ []) e.effects
+  pub note-next : (found : Option ObjNo) → found ≡ found_in e.effects → slip_after T found notes ≡ note_of T (history ++ e ∷ []) e.effects
   note-next found is = by found is (notes-next found is)
     where
       by : (x : Option ObjNo) → x ≡ found_in e.effects
-          → AreNotes (history ++ e ∷ []) T (notes_after (slip_after x notes) notes) → slip_after x notes
-          ≡ note_of (history ++ e ∷ []) e.effects
-      by None is h = ap (named (length (finders (history ++ e ∷ [])))) is
-      by (Some o) is h = ap (λ (n : ℕ). named n (Some o)) h.made ∙ ap (named (length (finders (history ++ e ∷ [])))) is
+          → AreNotes (history ++ e ∷ []) T (notes_after (slip_after T x notes) notes) → slip_after T x notes
+          ≡ note_of T (history ++ e ∷ []) e.effects
+      by None is h = ap (named T (length (finders (history ++ e ∷ [])))) is
+      by (Some o) is h = ap (λ (n : ℕ). named T n (Some o)) h.made ∙ ap (named T (length (finders (history ++ e ∷ [])))) is
 
-  pub finder-next : (found : Option ObjNo) → found ≡ found_in e.effects → IfSome (slip_after found notes) (IsFinder (history ++ e ∷ []) e.actor)
+  pub finder-next : (found : Option ObjNo) → found ≡ found_in e.effects → IfSome (slip_after T found notes) (IsFinder (history ++ e ∷ []) e.actor)
   finder-next None is = tt
-  finder-next (Some o) is = finder-sent script history e valid legal more notes o (sym is) are
+  finder-next (Some o) is = finder-sent script history e valid legal more notes o (place_of (object_of T o)) (sym is) are

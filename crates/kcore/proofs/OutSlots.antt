@@ -10,7 +10,7 @@ use Rattle.ready_list.specs.Arrival.{AreQueuesOf}
 use Rattle.machine.specs.declared.mode.Mode.{Mode}
 use Rattle.machine.specs.declared.state.State.{State}
 use Rattle.machine.specs.Arrived.{arrived_in}
-use Rattle.machine.specs.Boot.{boot_in, ready_at_boot}
+use Rattle.machine.specs.Boot.{boot_in, ready_at_boot, uses_again}
 use Rattle.machine.specs.Choice.{priority_of}
 use Rattle.machine.specs.History.{after_in}
 use Rattle.machine.specs.Run.{slot_actor}
@@ -37,6 +37,6 @@ slot-out script history core s actor stands suits chosen_is = by core.state.mode
     by true es h suits = chosen_is (arrived_in true script es) h.queues.queues ∙ ap (λ (S : State). slot_actor S (arrived_in true script es) s) h.state
     by false [] h suits = chosen_is (ready_at_boot script) h.queues.queues
         ∙ (ap (λ (S : State). slot_actor S (ready_at_boot script) s) h.state
-        ∙ chosen-same (boot_in false script) (record { shared = false; keep = false })
-        (record { shared = true; keep = false }) (ready_at_boot script) s)
+        ∙ chosen-same (boot_in false script) (record { shared = false; keep = false; reuse = uses_again script.version })
+        (record { shared = true; keep = false; reuse = uses_again script.version }) (ready_at_boot script) s)
     by false (e ∷ es) h suits = absurd (suits refl)

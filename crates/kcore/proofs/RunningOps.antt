@@ -28,52 +28,66 @@ use Rattle.machine.specs.Rows.{thread_of}
 use Rattle.machine.specs.ThreadCalls.{is_live}
 use Rattle.move_laws.proofs.Lists.Cases.{if_cases}
 use Rattle.machine_laws.proofs.Reached.Choices.{blind-all}
-use Rattle.machine_laws.proofs.Reached.Modes.{mode-moved, mode-perform}
+use Rattle.machine_laws.proofs.Reached.Modes.{mode-perform}
 use Rattle.table_moves.specs.Notes.{Notes}
-use Rattle.kernel_tables.specs.Choosing.{AreSoughtBeside, MayChoose, closing_bit}
-use Rattle.kernel_tables.specs.Moved.{MovesGo}
+use Rattle.kernel_tables.specs.Choosing.{AreNotesMade, AreSoughtBeside, MayChoose, closing_bit}
+use Rattle.kernel_tables.specs.Moved.{MovesGo, making_bit}
 use Rattle.kernel_tables.specs.Performed.{IsPerformed}
-use Rattle.kernel_tables.proofs.Performing.{OnTheWay, calm_state, closes_all, closes_append, moves_part, part_goes_on, performed_then, tell_append, unchosen, way_begins, way_ends}
+use Rattle.kernel_tables.proofs.Performing.{OnTheWay, calm_state, closes_all, closes_append, made-move, made_performed, moves_part, part_goes_on, performed_then, sought-move, tell_append, unchosen, way_begins, way_ends}
 
--- no operation gives a reference up
-calm_immediate : (found : Option ℕ) → total closing_bit (queue_immediate found) ≡ 0
+-- 1 for a move that gives a reference up or makes an object
+abbrev quiet_bit : Move → ℕ
+quiet_bit m = closing_bit m + making_bit m
+
+quiet_both : (ms : List Move) → total quiet_bit ms ≡ total closing_bit ms + total making_bit ms
+quiet_both [] = refl
+quiet_both (m ∷ ms) = let rest = quiet_both ms in omega arith
+
+-- no operation gives a reference up, or makes an object
+calm_immediate : (found : Option ℕ) → total quiet_bit (queue_immediate found) ≡ 0
 calm_immediate None = refl
 calm_immediate (Some item) = refl
 
-calm_to_move : (found : Option ℕ) → total closing_bit (queue_to_move found) ≡ 0
+calm_to_move : (found : Option ℕ) → total quiet_bit (queue_to_move found) ≡ 0
 calm_to_move None = refl
 calm_to_move (Some dfc) = refl
 
-calm_call : (S : State) (found : Option ℕ) → total closing_bit (queue_call S found) ≡ 0
+calm_call : (S : State) (found : Option ℕ) → total quiet_bit (queue_call S found) ≡ 0
 calm_call S None = refl
 calm_call S (Some dfc) = refl
 
-calm_signal : (u : ObjNo) (what : Waiting) → total closing_bit (signal_move u what ∷ []) ≡ 0
+calm_signal : (u : ObjNo) (what : Waiting) → total quiet_bit (signal_move u what ∷ []) ≡ 0
 calm_signal u Fast = refl
 calm_signal u _ = refl
 
-calm_row : (u : ObjNo) (row : Option ThreadRow) → total closing_bit (signal_row u row) ≡ 0
+calm_row : (u : ObjNo) (row : Option ThreadRow) → total quiet_bit (signal_row u row) ≡ 0
 calm_row u None = refl
-calm_row u (Some row) = if_cases (λ (ms : List Move). total closing_bit ms ≡ 0) (is_live row.stage) _ _ (λ _. calm_signal u row.waiting) (λ _. refl)
+calm_row u (Some row) = if_cases (λ (ms : List Move). total quiet_bit ms ≡ 0) (is_live row.stage) _ _ (λ _. calm_signal u row.waiting) (λ _. refl)
 
-calm_object : (S : State) (found : Option ObjNo) → total closing_bit (signal_object S found) ≡ 0
+calm_object : (S : State) (found : Option ObjNo) → total quiet_bit (signal_object S found) ≡ 0
 calm_object S None = refl
 calm_object S (Some u) = calm_row u (thread_of S u)
 
-calm_end : (S : State) (u : ObjNo) (s : ℕ) (row : Option ThreadRow) → total closing_bit (end_wait S u s row) ≡ 0
+calm_end : (S : State) (u : ObjNo) (s : ℕ) (row : Option ThreadRow) → total quiet_bit (end_wait S u s row) ≡ 0
 calm_end S u s None = refl
-calm_end S u s (Some row) = if_cases (λ (ms : List Move). total closing_bit ms ≡ 0) (ends_wait S u s row.waiting) _ _ (λ _. refl) (λ _. refl)
+calm_end S u s (Some row) = if_cases (λ (ms : List Move). total quiet_bit ms ≡ 0) (ends_wait S u s row.waiting) _ _ (λ _. refl) (λ _. refl)
 
-calm_complete : (S : State) (d : ℕ) (code : ℤ) (request : Option Request) → total closing_bit (complete S d code request) ≡ 0
+calm_complete : (S : State) (d : ℕ) (code : ℤ) (request : Option Request) → total quiet_bit (complete S d code request) ≡ 0
 calm_complete S d code None = refl
 calm_complete S d code (Some request) = let rest = calm_end S request.thread request.status (thread_of S request.thread) in omega arith
 
+op_quiet : (script : Script) (S : State) (o : Op) → total quiet_bit (op_moves script S o) ≡ 0
+op_quiet script S (op.Idfc name) = calm_immediate (idfc_named script name)
+op_quiet script S (op.Dfc name) = calm_to_move (dfc_named script name)
+op_quiet script S (op.Fssignal name) = calm_object S (find_object S Thread name)
+op_quiet script S (op.Device d code) = calm_complete S d code (request_at S.synchronization.requests d)
+op_quiet script S (op.Queue name) = calm_call S (dfc_named script name)
+
 pub op_calm : (script : Script) (S : State) (o : Op) → total closing_bit (op_moves script S o) ≡ 0
-op_calm script S (op.Idfc name) = calm_immediate (idfc_named script name)
-op_calm script S (op.Dfc name) = calm_to_move (dfc_named script name)
-op_calm script S (op.Fssignal name) = calm_object S (find_object S Thread name)
-op_calm script S (op.Device d code) = calm_complete S d code (request_at S.synchronization.requests d)
-op_calm script S (op.Queue name) = calm_call S (dfc_named script name)
+op_calm script S o = let none = op_quiet script S o in let both = quiet_both (op_moves script S o) in omega arith
+
+pub op_unmaking : (script : Script) (S : State) (o : Op) → total making_bit (op_moves script S o) ≡ 0
+op_unmaking script S o = let none = op_quiet script S o in let both = quiet_both (op_moves script S o) in omega arith
 
 pub ops_calm : (script : Script) (t : ObjNo) (S : State) (ops : List Op) → total closing_bit (ops_moves script t S ops) ≡ 0
 ops_calm script t S [] = refl
@@ -88,32 +102,38 @@ leave_calm S (Interrupt k) = refl
 leave_calm S (Immediate item) = refl
 leave_calm S (Deferred dfc) = refl
 
+pub leave_unmaking : (S : State) (body : Body) → total making_bit (leave_queue S body) ≡ 0
+leave_unmaking S (Interrupt k) = refl
+leave_unmaking S (Immediate item) = refl
+leave_unmaking S (Deferred dfc) = refl
+
 -- behind such moves an actor may go on as it began
-sought_on : (script : Script) (t : ObjNo) (ms : List Move) (notes : Notes) (S : State) → MovesGo script t ms S
-    → AreSoughtBeside t notes S → AreSoughtBeside t notes (perform t ms S)
-sought_on script t [] notes S go sought = sought
-sought_on script t (m ∷ ms) notes S go sought = sought_on script t ms notes (moved t m S) go.1 (λ o noted.
-    let was = sought o noted in (
-      record {
-        shared = ap (λ (mode : Mode). mode.shared) (mode-moved S t m) ∙ was.0.shared;
-        finder = was.0.finder;
-        back = go.0.runs.out was.0.finder o was.1 was.0.back;
-      },
-      was.1,
-    ))
+sought_on : (script : Script) (t : ObjNo) (ms : List Move) (notes : Notes) (S : State) → MovesGo script t ms S → AreNotesMade notes S
+    → AreSoughtBeside t notes S → AreNotesMade notes (perform t ms S) × AreSoughtBeside t notes (perform t ms S)
+sought_on script t [] notes S go made sought = (made, sought)
+sought_on script t (m ∷ ms) notes S go made sought =
+    sought_on script t ms notes (moved t m S) go.1 (made-move t m notes S made) (sought-move script t m notes S go.0.runs made sought)
 
 pub may_after : (script : Script) (t : ObjNo) (ms : List Move) (notes : Notes) (old new : State) (before after : Ready)
     (was is : List Effect)
-    → ((keep : Bool) → MovesGo script t ms (keeping keep old)) → total closing_bit ms ≡ 0
+    → ((keep : Bool) → MovesGo script t ms (keeping keep old)) → total closing_bit ms ≡ 0 → total making_bit ms ≡ 0
     → IsPerformed script t ms old new before after was is → MayChoose t notes old → MayChoose t notes new
-may_after script t ms notes old new before after was is go none done may =
+may_after script t ms notes old new before after was is go none unmade done may =
     let left = calm_state script t ms old new before after was is none done in
+    let on = sought_on script t ms notes old (go old.mode.keep) may.made may.sought in
     record {
       unchosen =
           unchosen script t ms old new before after was is none done
           ∙ may.unchosen
           ∙ sym (ap (λ (U : State). U.mode.shared) left ∙ ap (λ (mode : Mode). mode.shared) (mode-perform old t ms));
-      sought = subst (AreSoughtBeside t notes) (sym left) (sought_on script t ms notes old (go old.mode.keep) may.sought);
+      room =
+          let same = made_performed t ms old in
+          let now : new.references.made ≡ (perform t ms old).references.made = ap (λ (U : State). U.references.made) left in
+          let mode : new.mode.reuse ≡ old.mode.reuse =
+          ap (λ (U : State). U.mode.reuse) left ∙ ap (λ (mode : Mode). mode.reuse) (mode-perform old t ms) in
+          λ again. let room = may.room (sym mode ∙ again) in omega arith;
+      made = subst (AreNotesMade notes) (sym left) on.0;
+      sought = subst (AreSoughtBeside t notes) (sym left) on.1;
     }
 
 -- some operations are done, and the others are left

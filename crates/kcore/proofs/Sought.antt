@@ -19,24 +19,28 @@ use Rattle.machine.specs.declared.state.State.{State}
 use Rattle.machine.specs.Boot.{boot, boot_in, boot_of}
 use Rattle.machine.specs.History.{after_in, IsShared}
 use Rattle.machine.specs.Interrupts.{supervisor}
-use Rattle.machine.specs.Out.{found_object, is_returning, seeks}
-use Rattle.machine.specs.References.{same, total}
-use Rattle.machine.specs.Rows.{thread_of}
+use Rattle.machine.specs.Out.{is_returning, seeks}
+use Rattle.machine.specs.References.{total}
+use Rattle.machine.specs.Rows.{object_of, thread_of}
+use Rattle.state_rows.specs.declared.object.ObjectRow.{ObjectRow}
+use Rattle.state_rows.specs.ObjectRows.{place_of}
 use Rattle.machine.specs.Serving.{thread_bit}
 use Rattle.machine.specs.Task.{instructions_of}
 use Rattle.machine.specs.WellFormed.{AreRows}
-use Rattle.move_laws.proofs.References.Same.{if_not, same_object}
+use Rattle.move_laws.proofs.Lists.Totals.{total_any}
+use Rattle.move_laws.proofs.References.Same.{same_object}
+use Rattle.machine_laws.proofs.Sharing.Seekers.{unseen}
 use Rattle.machine_laws.proofs.Reached.AfterHistory.{well_formed-after}
 use Rattle.machine_laws.proofs.Reached.Modes.{shared-after}
 use Rattle.machine_safe.specs.CountAfter.{is_by}
 use Rattle.machine_safe.specs.FindsAndReturns.{away, is_out_actor, returning_bit}
-use Rattle.machine_safe.proofs.Finders.Actions.{out-on}
 use Rattle.machine_safe.proofs.LegalServing.{book-after}
-use Rattle.kernel_tables.specs.Choosing.{AreSoughtBeside}
+use Rattle.kernel_tables.specs.Choosing.{AreNotesMade, AreSoughtBeside}
+use Rattle.table_moves.specs.ObjectsView.{IsThere}
 use Rattle.table_moves.specs.Notes.{IsNoteOut, Notes, notes_back}
 use Rattle.kcore.specs.Finds.{finder}
 use Rattle.kcore.specs.Acting.{acting}
-use Rattle.kcore.specs.Outgoing.{AreNotes}
+use Rattle.kcore.specs.Outgoing.{AreNotes, IsNoteOf}
 use Rattle.kcore.proofs.NotesOut.{apart, words_like}
 
 -- a note of a place that is out
@@ -65,11 +69,6 @@ first-role : (script : Script) (first : ThreadRow)
 unfolding boot_of
 first-role script first is = let role : first.role ≡ Role.Supervisor = cc in ap (λ (r : Role). length (instructions_of script r)) role
 
--- whoever isn't returning is out on nothing
-unseen : (x : Option ThreadRow) (o : ObjNo) → ((row : ThreadRow) → x ≡ Some row → is_returning row.part ≡ false) → seeks o x ≡ 0
-unseen None o still = refl
-unseen (Some row) o still = if_not (is_returning row.part) (same (found_object row) o) (still row refl)
-
 append-none : {A : Type 0} (xs : List A) → xs ++ [] ≡ xs
 append-none [] = refl
 append-none (x ∷ xs) = ap (λ l. x ∷ l) (append-none xs)
@@ -81,8 +80,8 @@ module _ (script : Script) (history : List Entry) (valid : IsWellFormed script) 
   rows : AreRows script S
   rows = (well_formed-after true script history valid).rows
 
-  pub supervisor-in : (o : ObjNo) → seeks o (thread_of S supervisor) ≡ 0
-  supervisor-in o = unseen (thread_of S supervisor) o (λ row is. by row is (is_returning row.part) refl)
+  pub supervisor-in : (o : ObjNo) (place : ℕ) → seeks o place (thread_of S supervisor) ≡ 0
+  supervisor-in o place = unseen (thread_of S supervisor) o place (λ row is. by row is (is_returning row.part) refl)
     where
       by : (row : ThreadRow) → thread_of S supervisor ≡ Some row → (b : Bool) → is_returning row.part ≡ b → b ≡ false
       by row is true returns =
@@ -95,57 +94,78 @@ module _ (script : Script) (history : List Entry) (valid : IsWellFormed script) 
       by row is false returns = refl
 
   -- whoever is out isn't the thread in whose place an actor acts that isn't out
-  not-supervisor : (u o : ObjNo) → 0 < seeks o (thread_of S u) → u.0 ≡ supervisor.0 → ⊥
-  not-supervisor u o out is =
-      let none = supervisor-in o in
-      let same_row : seeks o (thread_of S u) ≡ seeks o (thread_of S supervisor) = ap (λ (n : ℕ). seeks o (get_or S.references.threads n None)) is in omega arith
+  not-supervisor : (u o : ObjNo) (place : ℕ) → 0 < seeks o place (thread_of S u) → u.0 ≡ supervisor.0 → ⊥
+  not-supervisor u o place out is =
+      let none = supervisor-in o place in
+      let same_row : seeks o place (thread_of S u) ≡ seeks o place (thread_of S supervisor) =
+      ap (λ (n : ℕ). seeks o place (get_or S.references.threads n None)) is in omega arith
 
-  not-acting : (actor : Actor) (u o : ObjNo) → is_by u actor ≡ false → 0 < seeks o (thread_of S u) → u.0 ≡ (acting actor).0 → ⊥
-  not-acting (Thread t) u o other out is = let by : is_by u (Thread t) ≡ true = eq-eqb t.0 u.0 (sym is) in cc
-  not-acting (Irq k) u o other out is = not-supervisor u o out is
-  not-acting Idfc u o other out is = not-supervisor u o out is
-  not-acting Tick u o other out is = not-supervisor u o out is
-  not-acting Idle u o other out is = not-supervisor u o out is
+  not-acting : (actor : Actor) (u o : ObjNo) (place : ℕ) → is_by u actor ≡ false → 0 < seeks o place (thread_of S u) → u.0 ≡ (acting actor).0 → ⊥
+  not-acting (Thread t) u o place other out is = let by : is_by u (Thread t) ≡ true = eq-eqb t.0 u.0 (sym is) in cc
+  not-acting (Irq k) u o place other out is = not-supervisor u o place out is
+  not-acting Idfc u o place other out is = not-supervisor u o place out is
+  not-acting Tick u o place other out is = not-supervisor u o place out is
+  not-acting Idle u o place other out is = not-supervisor u o place out is
+
+  -- notes that belong to threads are of places of objects that were made, and whoever is out on the place of an object is out on its number
+  abbrev pub Belongs : List Slip → Type 0
+  Belongs out = (s : Slip) → IsTrue (list_any (λ other. same_slip other s) out) → IsNoteOf history S s
+
+  total-of : (u o : ObjNo) (p : ℕ) → 0 < seeks o p (thread_of S u) → 0 < total (seeks o p) S.references.threads
+  total-of u o p out = let most = total_any (seeks o p) S.references.threads u.0 None refl in omega arith
+
+  pub made-places : (out : List Slip) → Belongs out → (p : ℕ) → IsTrue (list_any (λ s. s.place == p) out) → p < S.references.made
+  made-places out each p has =
+      let found = note-of out p has in
+      let n = each found.slip found.out_is in
+      subst (λ (k : ℕ). k < S.references.made) found.place
+      (rows.references.places.sought n.found found.slip.place (total-of n.thread n.found found.slip.place n.away))
+
+  -- the thread of a note of an object's place is out on the object
+  out-there : (x : Option ObjectRow) (u o y : ObjNo) (p : ℕ) → object_of S o ≡ x → IsThere x → p ≡ place_of x
+      → 0 < seeks y p (thread_of S u) → 0 < seeks o (place_of (object_of S o)) (thread_of S u)
+  out-there None u o y p at there place out = absurd (cc)
+  out-there (Some row) u o y p at there place out =
+      let there_out : 0 < seeks y row.place (thread_of S u) = subst (λ (k : ℕ). 0 < seeks y k (thread_of S u)) place out in
+      let same : y ≡ o = same_object y o (sym (rows.references.places.found y o.0 row at (total-of u y row.place there_out))) in
+      subst (λ (k : ℕ). 0 < seeks o k (thread_of S u)) (ap place_of (sym at)) (subst (λ (z : ObjNo). 0 < seeks z row.place (thread_of S u)) same there_out)
 
   -- the notes that are out are accounted for, beside an actor that isn't out
   pub sought : (notes : Notes) (actor : Actor) → AreNotes history S notes → is_out_actor S actor ≡ false → AreSoughtBeside (acting actor) notes S
-  sought notes actor h stays o has =
-      let found = note-of notes.out o.0 has in
+  sought notes actor h stays o there has =
+      let found = note-of notes.out (place_of (object_of S o)) has in
       let n = h.each found.slip found.out_is in
-      let place : record { 0 = found.slip.place } ≡ o = same_object (record { 0 = found.slip.place }) o found.place in
-      let out : 0 < seeks o (thread_of S n.thread) = subst (λ (x : ObjNo). 0 < seeks x (thread_of S n.thread)) place n.away in
-      let row = out-on S n.thread o out in
-      let other = apart S n.thread o actor (shared-after script (boot_in true script) history) stays out in (
-        record {
-          shared = shared-after script (boot_in true script) history;
-          finder = n.thread;
-          back = record { row = row.row; is = row.is; returns = row.returns; found = row.found };
-        },
-        not-acting actor n.thread o other out,
-      )
+      let out = out-there (object_of S o) n.thread o n.found found.slip.place refl there found.place n.away in
+      let place = place_of (object_of S o) in
+      let shared = shared-after script (boot_in true script) history in
+      let other = apart S n.thread o place actor shared stays out in
+      (n.thread, record { shared = shared; out = out }, not-acting actor n.thread o place other out)
 
   -- and beside a thread that comes back with its note, which is out no longer
   pub sought-back : (notes : Notes) (s : Slip) (t : ObjNo) → AreNotes history S notes → IsNoteOut notes s
       → finder s.number history ≡ Some t → AreSoughtBeside t (notes_back s notes) S
-  sought-back notes s t h out its o has =
-      let found = note-of (without s notes.out) o.0 has in
-      let there : IsNoteOut notes found.slip = out-before_take Held (words_like notes) found.slip s found.out_is in
-      let n = h.each found.slip there in
-      let place : record { 0 = found.slip.place } ≡ o = same_object (record { 0 = found.slip.place }) o found.place in
-      let away_there : 0 < seeks o (thread_of S n.thread) = subst (λ (x : ObjNo). 0 < seeks x (thread_of S n.thread)) place n.away in
-      let row = out-on S n.thread o away_there in (
-        record {
-          shared = shared-after script (boot_in true script) history;
-          finder = n.thread;
-          back = record { row = row.row; is = row.is; returns = row.returns; found = row.found };
-        },
+  sought-back notes s t h out its o there has =
+      let found = note-of (without s notes.out) (place_of (object_of S o)) has in
+      let was : IsNoteOut notes found.slip = out-before_take Held (words_like notes) found.slip s found.out_is in
+      let n = h.each found.slip was in
+      let on = out-there (object_of S o) n.thread o n.found found.slip.place refl there found.place n.away in (
+        n.thread,
+        record { shared = shared-after script (boot_in true script) history; out = on },
         λ same_number.
             let same_thread : n.thread ≡ t = same_object n.thread t same_number in
-            let same_note : found.slip ≡ s = h.once found.slip s there out (n.its ∙ (ap Some same_thread ∙ sym its)) in
+            let same_note : found.slip ≡ s = h.once found.slip s was out (n.its ∙ (ap Some same_thread ∙ sym its)) in
             not_out-after_take Held (words_like notes) s
             (subst (λ (x : Slip). IsTrue (list_any (λ other. same_slip other x) (without s notes.out))) same_note
             found.out_is),
       )
+
+  -- both are of places of objects that were made
+  pub notes-made : (notes : Notes) → AreNotes history S notes → AreNotesMade notes S
+  notes-made notes h p has = made-places notes.out h.each p has
+
+  pub back-made : (notes : Notes) (s : Slip) → AreNotes history S notes → AreNotesMade (notes_back s notes) S
+  back-made notes s h p has =
+      made-places (without s notes.out) (λ r out. h.each r (out-before_take Held (words_like notes) r s out)) p has
 
   -- fewer than 65 are out
   returning-few : (threads : List (Option ThreadRow)) → total returning_bit threads ≤ total thread_bit threads

@@ -10,7 +10,7 @@ use Rattle.state_rows.specs.MessageChanges.{no_messages}
 use Rattle.state_rows.specs.RequestChanges.{new_rows as request_rows}
 use Rattle.state_rows.specs.ServerChanges.{no_rows}
 use Rattle.state_rows.specs.declared.servers.ServerRows.{ServerRows}
-use Rattle.machine.specs.Boot.{memory_of_row, nano_of}
+use Rattle.machine.specs.Boot.{memory_of_row, nano_of, objects_from, uses_again}
 use Rattle.state_rows.specs.declared.thread.ThreadRow.{ThreadRow}
 use Rattle.cleanup.specs.Lists.{empty_lists}
 use Rattle.procs.specs.ProcsRows.{ProcsRows}
@@ -58,12 +58,12 @@ born_names number (Some row) o = same number o + same row.process o
 pub record AreNew (all : List Born) : Type 0 where
   pub named : (k : ℕ) (b : Born) → slice_get all k ≡ Some b → is_session b.object.kind ≡ false
   pub alive : (k : ℕ) (b : Born) → slice_get all k ≡ Some b → b.object.dead ≡ false
-  pub names : (k : ℕ) (b : Born) → slice_get all k ≡ Some b → is_taken b.object.kind b.object.name (take k (map (λ (x : Born). Some x.object) all)) ≡ false
+  pub names : (k : ℕ) (b : Born) → slice_get all k ≡ Some b → is_taken b.object.kind b.object.name (take k (objects_from 0 all)) ≡ false
   pub counted : (k : ℕ) → k < length all → 0 < born_count all (record { 0 = k })
 
 -- the table of objects once the first n stand in it
 pub record FirstStand (all : List Born) (rows : List (Option ObjectRow)) (counts : List ℕ) (n : ℕ) : Type 0 where
-  pub rows_are : rows ≡ take n (map (λ (b : Born). Some b.object) all)
+  pub rows_are : rows ≡ take n (objects_from 0 all)
   pub counted : (k : ℕ) → k < n → slice_index counts k ≡ born_count all (record { 0 = k })
   pub none : (k : ℕ) → n ≤ k → slice_index counts k ≡ 0
 
@@ -85,7 +85,7 @@ pub record AreThreadTables (threads : List (Option ThreadRow)) (p : ProcsRows) (
 -- the other tables beside that of objects: nothing is owed, held, owned, queued or asked for, and no message is outstanding; and one caller alone calls the
 -- kernel so far
 pub record AreEmpty {W N : Type 0} (script : Script) (all : List Born) (tables : Tables W N) : Type 0 where
-  pub mode : tables.mode ≡ record { shared = false; keep = false }
+  pub mode : tables.mode ≡ record { shared = false; keep = false; reuse = uses_again script.version }
   pub handles : slots_of tables.handles ≡ map (λ _. replicate HANDLES fresh_slot) all
   pub cleanup : tables.cleanup ≡ empty_lists (length all) OBJECTS
   pub nano : tables.nano ≡ nano_of script.fast all

@@ -7,6 +7,9 @@ use Rattle.entry_log.specs.declared.entry.Actor.{Actor}
 use Rattle.entry_log.specs.declared.entry.Actor.TheVariants.{Thread}
 use Rattle.entry_log.specs.declared.entry.Entry.{Entry}
 use Rattle.ref_words.specs.declared.slip.Slip.{Slip}
+use Rattle.state_rows.specs.ObjectRows.{place_of}
+use Rattle.machine.specs.declared.state.State.{State}
+use Rattle.machine.specs.Rows.{object_of}
 
 -- the object that an effect finds by its name, and the first one that effects do
 abbrev pub seek_in : Effect → Option ObjNo
@@ -32,6 +35,8 @@ abbrev pub finder : ℕ → List Entry → Option ObjNo
 finder zero history = None
 finder (suc k) history = slice_get (finders history) k
 
--- the note that the last entry of a history sends out: it has the place of the object that these effects of it find, and the number of the find
-abbrev pub note_of : List Entry → List Effect → Option Slip
-note_of history effects = option_map (λ (o : ObjNo). record { place = o.0; number = length (finders history) }) (found_in effects)
+-- the note that the last entry of a history sends out: it has the place, in this state, of the object that these effects of it find, and the number
+-- of the find
+abbrev pub note_of : State → List Entry → List Effect → Option Slip
+note_of S history effects =
+    option_map (λ (o : ObjNo). record { place = place_of (object_of S o); number = length (finders history) }) (found_in effects)

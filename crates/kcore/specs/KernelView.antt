@@ -1,10 +1,11 @@
 -- What a contract sees of a kernel.
-use Rattle.std.specs.Prelude.{◌≡◌, ℕ, ◌≤◌, Bool, false, List, [], length}
-use Rattle.sym_base.specs.declared.limits.TheConstants.Limits.{SHARED_HISTORY}
+use Rattle.std.specs.Prelude.{◌≡◌, ℕ, ◌+◌, ◌≤◌, if◌then◌else◌, Bool, false, List, [], length}
+use Rattle.sym_base.specs.declared.limits.TheConstants.Limits.{OBJECTS, SHARED_HISTORY}
 use Rattle.script_types.specs.declared.script.Script.{Script}
 use Rattle.script_types.specs.Source.{IsWellFormed}
 use Rattle.entry_log.specs.declared.entry.Entry.{Entry}
 use Rattle.machine.specs.Arrived.{arrived_in}
+use Rattle.machine.specs.Boot.{uses_again}
 use Rattle.machine.specs.Choice.{priority_of}
 use Rattle.machine.specs.History.{after_in, IsLegalIn}
 use Rattle.table_moves.specs.Notes.{Notes}
@@ -31,10 +32,18 @@ pub record Stands {W : Type 0} (shared : Bool) (script : Script) (history : List
   pub queues : AreReady (priority_of core.state) (arrived_in shared script history) core.ready
   pub notes : AreOutgoing shared history core.state core.notes
 
--- a kernel stands for its history, and there is room for its entries; it knows how many are out; and nobody shares it that has no entries yet
+-- how many places a kernel's words need that has room for so many entries: one for each number, or where numbers are used again one for each
+-- entry and 128 for the objects at boot
+abbrev pub places_for : ℕ → ℕ → ℕ
+places_for version room = if uses_again version then room + 128 else OBJECTS
+
+-- a kernel stands for its history, and there is room for its entries, and a place for what each makes; it knows how many are out; and nobody shares it
+-- that has no entries yet
 pub record IsKernel {W : Type 0} (script : Script) (history : List Entry) (core : CoreView W) (out room capacity : ℕ) : Type 0 where
   pub fits : room ≤ capacity
   pub few : room ≤ SHARED_HISTORY
+  pub places : core.notes.places ≡ places_for script.version room
+  pub short : length history ≤ room
   pub stands : Stands core.state.mode.shared script history core
   pub counted : out ≡ length core.notes.out
   pub fresh : history ≡ [] → core.state.mode.shared ≡ false

@@ -26,7 +26,7 @@ pub record IsFinder (history : List Entry) (actor : Actor) (s : Slip) : Type 0 w
 pub record SendsOut (script : Script) (old new : List Entry) (actor : Actor) (sent : Option Slip) : Type 0 where
   pub more : OneMore script old new actor
   pub forth : is_return more.entry.step ≡ false
-  pub note : sent ≡ note_of new more.entry.effects
+  pub note : sent ≡ note_of (after_in true script new) new more.entry.effects
   pub finder : IfSome sent (IsFinder new actor)
 
 -- or the entry is the return of a thread

@@ -10,11 +10,12 @@ use Rattle.machine_safe.specs.FindsAndReturns.{away}
 use Rattle.table_moves.specs.Notes.{Notes, IsNoteOut}
 use Rattle.kcore.specs.Finds.{finder, finders}
 
--- a note whose number is that of a find of a thread, which is still out on its place
+-- a note whose number is that of a find of a thread, which is still out on an object of its place
 pub record IsNoteOf (history : List Entry) (S : State) (s : Slip) : Type 0 where
   pub thread : ObjNo
+  pub found : ObjNo
   pub its : finder s.number history ≡ Some thread
-  pub away : 0 < seeks (record { 0 = s.place }) (thread_of S thread)
+  pub away : 0 < seeks found s.place (thread_of S thread)
 
 -- As many notes were made as objects were found, and as many are out as threads. Each that is out is of a thread that is, which has no other.
 pub record AreNotes (history : List Entry) (S : State) (notes : Notes) : Type 0 where

@@ -1,12 +1,12 @@
 //! A thread comes back from a find with its note.
-ghost use Rattle.std.specs.Prelude.{◌≡◌, ◌+◌, ◌%◌, true, false, [], length};
+ghost use Rattle.std.specs.Prelude.{◌≡◌, ◌+◌, Some, true, false, [], length};
 ghost use Rattle.sym_base.specs.declared.word.Word.{Word};
 ghost use Rattle.script_types.specs.Shape.{IsShaped};
 ghost use Rattle.entry_log.specs.declared.step.Part.{Part};
 ghost use Rattle.state_rows.specs.declared.thread.ThreadRow.{ThreadRow};
-ghost use Rattle.objects.specs.Rows.{is_alive};
-ghost use Rattle.machine.specs.Find.{return_to};
-ghost use Rattle.machine.specs.Rows.{object_of};
+ghost use Rattle.machine.specs.Find.{is_open, return_to};
+ghost use Rattle.machine.specs.Out.{found_object};
+ghost use Rattle.machine.specs.Rows.{object_of, thread_of};
 ghost use Rattle.machine.specs.Steps.{decision_of};
 ghost use Rattle.table_moves.specs.Notes.{IsNoteOut, notes_back};
 ghost use Rattle.kernel_tables.specs.CoreView.{RunsScript};
@@ -17,25 +17,28 @@ ghost use Rattle.kcore.specs.Told.{IsTold, told_in};
 use crate::plans::finish;
 use entry_log::{Effects, Entry, Part};
 use kernel_tables::Core;
-use machine::{Decision, Move};
+use machine::{Decision, Move, found_object};
 use next_actions::decide_action;
 use ref_words::RefWords;
 use script_types::Script;
 use sym_base::{ObjNo, ThreadNo};
 
-/// The object that a note is for. A number of an object has 16 bits.
-fn object_of<W: RefWords + Drop>(note: &W::Note) -> ObjNo
-    ensures { result.0 ≡ (W.slip note.now).place % 65536 }
+/// The number that a thread's find found.
+fn found_by<W: RefWords + Drop>(core: &Core<W>, thread: ThreadNo) -> ObjNo
+    ensures { (row : ThreadRow) → thread_of core.now.state thread ≡ Some row → result ≡ found_object row }
 {
-    ObjNo((W::place_of(note) % 65536) as u16)
+    match core.tables.procs.thread(thread) {
+        Some(row) => found_object(row),
+        None => ObjNo(0),
+    }
 }
 
-/// Whether an object is there and isn't dead.
-fn is_alive<W: RefWords + Drop>(core: &Core<W>, object: ObjNo) -> bool
-    ensures { result ≡ is_alive (object_of core.now.state object) }
+/// Whether an object of a place has this number and isn't dead.
+fn is_open<W: RefWords + Drop>(core: &Core<W>, object: ObjNo, place: u32) -> bool
+    ensures { result ≡ is_open place (object_of core.now.state object) }
 {
     match core.tables.objects.row(object) {
-        Some(row) => !row.dead,
+        Some(row) => !row.dead && row.place == u64::from(place),
         None => false,
     }
 }
@@ -85,8 +88,8 @@ fn open_back<W: RefWords + Drop>(
     requires may { MayComeBack script.now (W.slip note) thread core.old.notes core.old.state }
     requires settled { W.IsSettled note }
     requires fits { W.Fits core.old.words note }
-    requires object { object.0 ≡ (W.slip note).place % 65536 }
-    requires alive { is_alive (object_of core.old.state object) ≡ true }
+    requires object { (row : ThreadRow) → thread_of core.old.state thread ≡ Some row → object ≡ found_object row }
+    requires opened { is_open (W.slip note).place (object_of core.old.state object) ≡ true }
     requires decided { IsNoteOut core.old.notes (W.slip note) → core.old.decision ≡ decision_of script.now core.old.state thread }
     requires empty { effects.old ≡ [] }
     ensures made { WasMade script.now thread core.old.decision core.old core.new effects.new }
@@ -98,12 +101,11 @@ fn open_back<W: RefWords + Drop>(
     core.open_back(script, thread, object, part, note, effects);
 }
 
-/// The return that was decided finds the note's object dead. The note is dropped.
+/// The return that was decided finds the note's object dead or swept. The note is dropped.
 fn miss_back<W: RefWords + Drop>(
     script: &Script,
     core: &mut Core<W>,
     thread: ThreadNo,
-    object: ObjNo,
     note: W::Note,
     effects: &mut Effects,
 )
@@ -111,8 +113,7 @@ fn miss_back<W: RefWords + Drop>(
     requires may { MayComeBack script.now (W.slip note) thread core.old.notes core.old.state }
     requires settled { W.IsSettled note }
     requires fits { W.Fits core.old.words note }
-    requires object { object.0 ≡ (W.slip note).place % 65536 }
-    requires gone { is_alive (object_of core.old.state object) ≡ false }
+    requires shut { (row : ThreadRow) → thread_of core.old.state thread ≡ Some row → is_open (W.slip note).place (object_of core.old.state (found_object row)) ≡ false }
     requires decided { IsNoteOut core.old.notes (W.slip note) → core.old.decision ≡ decision_of script.now core.old.state thread }
     requires empty { effects.old ≡ [] }
     ensures made { WasMade script.now thread core.old.decision core.old core.new effects.new }
@@ -143,11 +144,11 @@ fn make_back<W: RefWords + Drop>(
     ensures was_out { IsNoteOut core.old.notes (W.slip note) }
     ensures fewer { length core.new.notes.out + 1 ≡ length core.old.notes.out }
 {
-    let object = object_of::<W>(&note);
-    if is_alive(core, object) {
+    let object = found_by(core, thread);
+    if is_open(core, object, W::place_of(&note)) {
         open_back(script, core, thread, object, note, effects);
     } else {
-        miss_back(script, core, thread, object, note, effects);
+        miss_back(script, core, thread, note, effects);
     }
 }
 

@@ -1,5 +1,5 @@
 //! The tables and the queues of ready threads at boot.
-ghost use Rattle.std.specs.Prelude.{if◌then◌else◌, ◌≡◌, ◌<◌, ◌≤◌, true, length, map, replicate, IfOk, slice_set};
+ghost use Rattle.std.specs.Prelude.{if◌then◌else◌, ◌≡◌, ◌<◌, ◌≤◌, false, true, length, map, replicate, IfOk, slice_set};
 ghost use Rattle.sym_base.specs.declared.limits.TheConstants.Limits.{BOOT_OBJECTS, DEVICES, OBJECTS, HANDLES};
 ghost use Rattle.sym_base.specs.declared.number.ObjNo.{ObjNo};
 ghost use Rattle.script_types.specs.Source.{IsWellFormed};
@@ -7,7 +7,7 @@ ghost use Rattle.script_types.specs.Shape.{IsShaped};
 ghost use Rattle.state_rows.specs.DeclaredCalls.{calls_of};
 ghost use Rattle.ref_words.specs.Words.{NoneCreated};
 ghost use Rattle.machine.specs.Arrivals.{is_listed};
-ghost use Rattle.machine.specs.Boot.{boot, born, nano_of, ready_at_boot};
+ghost use Rattle.machine.specs.Boot.{boot, born, nano_of, ready_at_boot, uses_again};
 ghost use Rattle.machine.specs.Choice.{priority_of};
 ghost use Rattle.state_rows.specs.HandleSlots.{fresh_slot};
 ghost use Rattle.machine.specs.WellFormed.{AreApart};
@@ -26,7 +26,7 @@ use cleanup::Cleanup;
 use handles::Handles;
 use kern_sync::KernSync;
 use kernel_tables::{CallQueues, Core, ObjectTable, Tables};
-use machine::{Born, Mode, all_born, ready_at_boot};
+use machine::{Born, Mode, all_born, ready_at_boot, uses_again};
 use nano_sync::NanoSync;
 use procs::Procs;
 use ready_list::ReadyList;
@@ -164,6 +164,7 @@ fn tables_over<W: RefWords + Drop>(
         mode: Mode {
             shared: false,
             keep: false,
+            reuse: uses_again(script.version),
         },
         objects,
         handles: empty.0,
@@ -202,14 +203,16 @@ fn tables_at_boot<W: RefWords + Drop>(
     all: &[Born],
 ) -> Result<Tables<W>, NoMemory>
     requires valid { IsWellFormed script.now }
-    requires places { length (W.meaning words).own ≡ OBJECTS }
+    requires places { 81 ≤ length (W.meaning words).own }
+    requires numbers { uses_again script.now.version ≡ false → OBJECTS ≤ length (W.meaning words).own }
     requires fresh { NoneCreated (W.meaning words) }
     requires born { all.now ≡ born script.now }
     ensures state { IfOk result (λ tables. state_of tables ≡ boot script.now) }
     ensures kept { IfOk result (λ tables. AreKept tables) }
-    ensures notes { IfOk result (λ tables. tables.objects.notes ≡ no_notes (W.meaning words).identity) }
+    ensures made { IfOk result (λ tables. tables.objects.made ≡ length (born script.now)) }
+    ensures notes { IfOk result (λ tables. tables.objects.notes ≡ no_notes (W.meaning words).identity (length (W.meaning words).own)) }
 {
-    let objects = counted(alloc, words, all)?;
+    let objects = counted(alloc, words, all, uses_again(script.version))?;
     let tables = tables_of(alloc, script, all, objects)?;
     Ok(tables)
 }
@@ -221,11 +224,12 @@ pub fn boot<W: RefWords + Drop>(
     words: W,
 ) -> Result<Core<W>, NoMemory>
     requires valid { IsWellFormed script.now }
-    requires places { length (W.meaning words).own ≡ OBJECTS }
+    requires places { 81 ≤ length (W.meaning words).own }
+    requires numbers { uses_again script.now.version ≡ false → OBJECTS ≤ length (W.meaning words).own }
     requires fresh { NoneCreated (W.meaning words) }
     ensures state { IfOk result (λ core. core.state ≡ boot script.now) }
     ensures queues { IfOk result (λ core. AreReady (priority_of (boot script.now)) (ready_at_boot script.now) core.ready) }
-    ensures notes { IfOk result (λ core. core.notes ≡ no_notes (W.meaning words).identity) }
+    ensures notes { IfOk result (λ core. core.notes ≡ no_notes (W.meaning words).identity (length (W.meaning words).own)) }
 {
     let all = all_born(alloc, script)?;
     let ready = queues_at_boot(alloc, script, all.as_slice())?;

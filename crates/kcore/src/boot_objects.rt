@@ -3,7 +3,7 @@ ghost use Rattle.std.specs.Prelude.{◌≡◌, ℕ, ◌+◌, ◌<◌, ◌≤◌,
 ghost use Rattle.sym_base.specs.declared.limits.TheConstants.Limits.{OBJECTS};
 ghost use Rattle.sym_base.specs.declared.number.ObjNo.{ObjNo};
 ghost use Rattle.ref_words.specs.Words.{NoneCreated};
-ghost use Rattle.state_rows.specs.ObjectRows.{is_session, is_taken};
+ghost use Rattle.state_rows.specs.ObjectRows.{is_session, is_taken, next_number};
 ghost use Rattle.state_rows.specs.declared.thread.ThreadRow.{ThreadRow};
 ghost use Rattle.table_moves.specs.Notes.{no_notes};
 ghost use Rattle.machine.specs.References.{same};
@@ -73,10 +73,15 @@ fn make_counted<W: RefWords + Drop>(objects: &mut ObjectTable<W>, row: &ObjectRo
     requires named { is_session row.now.kind ≡ false }
     requires alive { row.now.dead ≡ false }
     requires fresh { is_taken row.now.kind row.now.name objects.old.rows ≡ false }
+    requires next { next_number objects.old.reuse objects.old.rows ≡ length objects.old.rows }
     requires room { length objects.old.rows < OBJECTS }
+    requires made { objects.old.made ≡ length objects.old.rows }
+    requires place { objects.old.made < objects.old.notes.places }
     requires some { 0 < count }
     requires small { count < 65536 }
-    ensures rows { objects.new.rows ≡ objects.old.rows ++ Some row.now ∷ [] }
+    ensures rows { objects.new.rows ≡ objects.old.rows ++ Some (record row.now { place = length objects.old.rows }) ∷ [] }
+    ensures made { objects.new.made ≡ objects.old.made + 1 }
+    ensures reuse { objects.new.reuse ≡ objects.old.reuse }
     ensures counts { objects.new.counts ≡ slice_set objects.old.counts (length objects.old.rows) count }
     ensures last { slice_index objects.new.counts (length objects.old.rows) ≡ count }
     ensures notes { objects.new.notes ≡ objects.old.notes }
@@ -87,23 +92,26 @@ fn make_counted<W: RefWords + Drop>(objects: &mut ObjectTable<W>, row: &ObjectRo
     }
 }
 
-/// The objects at boot, each with the number of its references.
+/// The objects at boot, each with the number of its references, in a table that uses numbers again or doesn't.
 pub fn counted<W: RefWords + Drop>(
     alloc: Global,
     words: W,
     all: &[Born],
+    reuse: bool,
 ) -> Result<ObjectTable<W>, NoMemory>
-    requires places { length (W.meaning words).own ≡ OBJECTS }
+    requires places { length all.now ≤ length (W.meaning words).own }
     requires fresh { NoneCreated (W.meaning words) }
     requires few { length all.now ≤ OBJECTS }
     requires small { (o : ObjNo) → born_count all.now o < 65536 }
     requires linked { AreLinked all.now }
     requires born { AreNew all.now }
     ensures stand { IfOk result (λ objects. FirstStand all.now objects.rows objects.counts (length all.now)) }
-    ensures notes { IfOk result (λ objects. objects.notes ≡ no_notes (W.meaning words).identity) }
+    ensures made { IfOk result (λ objects. objects.made ≡ length all.now) }
+    ensures reuse { IfOk result (λ objects. objects.reuse ≡ reuse) }
+    ensures notes { IfOk result (λ objects. objects.notes ≡ no_notes (W.meaning words).identity (length (W.meaning words).own)) }
 {
     let counts = counts_of(alloc, all)?;
-    let mut objects = ObjectTable::new(alloc, words)?;
+    let mut objects = ObjectTable::new(alloc, words, reuse)?;
     for (number, born) in all.iter().enumerate() {
         make_counted(&mut objects, &born.object, counts[number]);
     }

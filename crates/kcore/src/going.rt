@@ -137,8 +137,8 @@ pub fn send<W: RefWords + Drop>(
     requires counted { out.old ≡ length core.old.notes.out }
     ensures state { core.new.state ≡ core.old.state }
     ensures ready { core.new.ready ≡ core.old.ready }
-    ensures slip { option_map (λ note. W.slip note) result ≡ slip_after found core.old.notes }
-    ensures notes { core.new.notes ≡ notes_after (slip_after found core.old.notes) core.old.notes }
+    ensures slip { option_map (λ note. W.slip note) result ≡ slip_after core.old.state found core.old.notes }
+    ensures notes { core.new.notes ≡ notes_after (slip_after core.old.state found core.old.notes) core.old.notes }
     ensures note { IfSome result (λ note. W.IsNew note × (W.origin note ≡ core.new.notes.identity) × W.Fits core.new.words note) }
     ensures counted { out.new ≡ length core.new.notes.out }
 {

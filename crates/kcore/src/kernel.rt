@@ -1,6 +1,6 @@
 //! The kernel that a script's schedule drives, or callers who share it.
 ghost use Rattle.std.specs.Prelude.{◌≡◌, ◌+◌, ◌<◌, ◌≤◌, ◌++◌, [], ◌∷◌, List, length, Bool, true, false, Some, None, option_map, IsTrue, IfOk, IfSome};
-ghost use Rattle.sym_base.specs.declared.limits.TheConstants.Limits.{OBJECTS, SHARED_HISTORY};
+ghost use Rattle.sym_base.specs.declared.limits.TheConstants.Limits.{SHARED_HISTORY};
 ghost use Rattle.ref_words.specs.Words.{NoneCreated};
 ghost use Rattle.script_types.specs.Source.{IsWellFormed};
 ghost use Rattle.machine.specs.Slots.{declares_interrupt, IsDeclared};
@@ -19,6 +19,7 @@ ghost use Rattle.machine_safe.specs.Weight.{weight_in};
 ghost use Rattle.table_moves.specs.Notes.{notes_back, notes_of};
 ghost use Rattle.kcore.specs.Finds.{finder};
 ghost use Rattle.kcore.specs.KernelMode.{Fresh, Split, Suits, Whole, mode_of};
+ghost use Rattle.kcore.specs.KernelView.{places_for};
 ghost use Rattle.kcore.specs.OneMore.{ReturnsBy, SendsOut};
 ghost use Rattle.kcore.specs.Sending.{notes_after};
 
@@ -64,11 +65,11 @@ impl<W: RefWords> Model for Kernel<W> {
 }
 
 impl<W: RefWords + Drop> Kernel<W> {
-    /// The kernel at boot, over words of 4,096 places of which none is created, with room for so many entries.
+    /// The kernel at boot, over words of as many places as `places_for` says, of which none is created, with room for so many entries.
     /// It takes all the memory that the kernel ever needs.
     pub fn boot(alloc: Global, script: Script, words: W, room: u32) -> Result<Kernel<W>, NoMemory>
         requires valid { IsWellFormed script }
-        requires places { length (W.meaning words).own ≡ OBJECTS }
+        requires places { length (W.meaning words).own ≡ places_for script.version room }
         requires fresh { NoneCreated (W.meaning words) }
         requires room { room ≤ SHARED_HISTORY }
         ensures kernel { IfOk result (λ kernel. kernel ≡ record { script = script; history = []; room = room; mode = Fresh; words = kernel.words; notes = kernel.notes }) }

@@ -13,6 +13,8 @@ mod going;
 mod interrupts;
 mod kernel;
 mod made;
+mod places;
 mod plans;
 
 pub use kernel::Kernel;
+pub use places::places_for;

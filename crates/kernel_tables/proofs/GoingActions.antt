@@ -8,7 +8,7 @@ use Rattle.entry_log.specs.declared.entry.Actor.TheVariants.{Thread}
 use Rattle.state_rows.specs.Deferred.{next_immediate}
 use Rattle.machine.specs.declared.decision.Decision.{Decision}
 use Rattle.machine.specs.declared.moves.Move.{Move}
-use Rattle.machine.specs.declared.moves.Move.TheVariants.{Pay}
+use Rattle.machine.specs.declared.moves.Move.TheVariants.{Make, Pay}
 use Rattle.machine.specs.declared.plan.Body.TheVariants.{Interrupt}
 use Rattle.machine.specs.declared.plan.Plan.TheVariants.{Runs}
 use Rattle.machine.specs.declared.state.State.{State}
@@ -22,9 +22,10 @@ use Rattle.machine.specs.SharedRun.{is_return}
 use Rattle.machine.specs.Steps.{decision_of}
 use Rattle.machine.specs.Task.{is_able}
 use Rattle.machine.specs.WellFormed.{AreRows}
-use Rattle.machine_laws.proofs.Fitting.Actions.{of_action}
-use Rattle.machine_laws.proofs.Fitting.Bodies.{Goes}
-use Rattle.machine_laws.proofs.Fitting.Interrupts.{goes-immediate, goes-interrupt, sane-supervisor}
+use Rattle.machine_laws.proofs.Fitting.Actions.{of_action, regular-action}
+use Rattle.machine_laws.proofs.Fitting.Bodies.{Goes, light_loses}
+use Rattle.machine_laws.proofs.Fitting.Interrupts.{goes-immediate, goes-interrupt, light-immediate, light-interrupt, sane-supervisor}
+use Rattle.machine_laws.proofs.Fitting.Regular.{once_bit}
 use Rattle.machine_laws.proofs.Reached.AfterHistory.{rows-keeping}
 use Rattle.machine_laws.proofs.Reached.Choices.{body-same, closes-few, decision-same, plan-same}
 use Rattle.machine_laws.proofs.Sharing.Losses.{comes-next, keeps-immediate, keeps-interrupt}
@@ -32,7 +33,7 @@ use Rattle.machine_laws.proofs.Sharing.Parts.{able-back, unless-returner}
 use Rattle.move_laws.proofs.Numbers.FewEffects.{tell_few}
 use Rattle.move_laws.proofs.References.Same.{if_not}
 use Rattle.kernel_tables.specs.Choosing.{closing_bit}
-use Rattle.kernel_tables.specs.Moved.{MovesGo, MovesRun}
+use Rattle.kernel_tables.specs.Moved.{MovesGo, MovesRun, making_bit}
 use Rattle.kernel_tables.specs.Performed.{ActionGoes}
 use Rattle.kernel_tables.proofs.GoingMoves.{each_goes, each_runs, opening_bit, opens_none, pay_goes}
 use Rattle.kernel_tables.proofs.Performing.{closes_all}
@@ -57,6 +58,15 @@ action_in script S t shaped rows =
     (λ what rest s owes alone. ((pay_goes script S t what rest owes s, tt), (let few = tell_few t (Pay what ∷ []) S in omega arith)))
     (λ alone. (tt, omega arith))
 
+-- whoever makes an object makes one at most
+make_le : (m : Move) → making_bit m ≤ once_bit m
+make_le (Make kind name h) = omega arith
+make_le m = omega arith
+
+makes_le : (ms : List Move) → total making_bit ms ≤ total once_bit ms
+makes_le [] = omega arith
+makes_le (m ∷ ms) = let here = make_le m in let rest = makes_le ms in omega arith
+
 -- decided in each of two states alike, and going through in both
 both_go : (script : Script) (t : ObjNo) (S : State) (decide : State → Decision)
     → ((keep : Bool) → decide (keeping keep S) ≡ decide S)
@@ -70,11 +80,12 @@ both_go script t S decide same goes alone keep =
 -- moves that fit with either choice
 pub each_choice_goes : (script : Script) (S : State) (t : ObjNo) (ms : List Move) → IsShaped script
     → ((keep : Bool) → Sane script t (keeping keep S)) → ComesAlone S ms
-    → ((keep : Bool) → Goes script t (keeping keep S) ms) → total closing_bit ms ≤ 1 → ActionGoes script t ms S
-each_choice_goes script S t ms shaped sane alone goes once = record {
+    → ((keep : Bool) → Goes script t (keeping keep S) ms) → total closing_bit ms ≤ 1 → total making_bit ms ≤ 1 → ActionGoes script t ms S
+each_choice_goes script S t ms shaped sane alone goes once makes = record {
   each = λ keep. (fitting_goes script (keeping keep S) t ms shaped (sane keep) alone (goes keep)).0;
   few = λ keep. (fitting_goes script (keeping keep S) t ms shaped (sane keep) alone (goes keep)).1;
   once = once;
+  makes = makes;
 }
 
 -- those of each action of a thread, but for a return where callers share the kernel
@@ -88,6 +99,9 @@ action_goes script S t shaped rows alone =
       each = λ keep. (goes keep).0;
       few = λ keep. (goes keep).1;
       once = let few = closes-few script S t shaped rows in let same = closes_all (decision_of script S t).moves in omega arith;
+      makes =
+          let few = (regular-action script S t shaped rows).1.loses in
+          let most = makes_le (decision_of script S t).moves in omega arith;
     }
 
 -- what they leave is in order, a return's too
@@ -127,6 +141,9 @@ interrupt_goes script S k shaped rows =
       each = λ keep. (goes keep).0;
       few = λ keep. (goes keep).1;
       once = let none = keeps.none in let same = closes_all (decide S).moves in omega arith;
+      makes =
+          let none = light_loses (light-interrupt script S k shaped rows) refl in
+          let most = makes_le (decide S).moves in omega arith;
     }
 
 -- and of the oldest item of the immediate queue
@@ -145,4 +162,7 @@ immediate_goes script S shaped rows =
       each = λ keep. (goes keep).0;
       few = λ keep. (goes keep).1;
       once = let none = keeps.none in let same = closes_all (decide S).moves in omega arith;
+      makes =
+          let none = light_loses (light-immediate script S found shaped rows refl) refl in
+          let most = makes_le (decide S).moves in omega arith;
     }

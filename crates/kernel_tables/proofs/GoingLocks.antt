@@ -23,7 +23,7 @@ use Rattle.machine.specs.References.{mutex_names, same, total, count_of}
 use Rattle.machine.specs.Rows.{object_of, thread_of}
 use Rattle.machine.specs.WellFormed.{AreRows, IsAlive, times_held}
 use Rattle.move_laws.proofs.Lists.Totals.{inside, total_at_least}
-use Rattle.move_laws.proofs.Lives.Bits.{alive_not_gone}
+use Rattle.move_laws.proofs.Lives.Bits.{alive_not_gone, alive_there}
 use Rattle.move_laws.proofs.Readiness.FirstReady.{greatest_listed}
 use Rattle.move_laws.proofs.RowLaws.LockChanges.{LockParts}
 use Rattle.move_laws.proofs.RowLaws.LockMoves.{given_none, held_once, none_held}
@@ -136,39 +136,40 @@ module _ (script : Script) (S : State) (rows : AreRows script S) (known : AreKno
   locks_may o u Again may = tt
   locks_may o u Waits may = tt
   locks_may o u Taken may =
-      let made = counted_made o may.counted in
+      let alive = rows.lives.alive o may.counted in
       let free = taken_free (owner_at S.synchronization.locks o) u may.answer in
       record {
         thread = owes_in u may.thread;
-        object = small o made;
+        object = small o (alive_made o alive);
         free =
-            none_has o S.synchronization.mutexes (none_held (length S.references.objects) S.references.threads
-            (parts S) rows.synchronization.locks rows.references.sized.objects_few o made free);
+            none_has o S.synchronization.mutexes (none_held S.references.objects S.references.threads
+            (parts S) rows.synchronization.locks rows.references.sized.objects_few o (alive_there (object_of S o) alive) free);
         referred = referred o may.counted;
       }
 
   -- an unlock that gives it up
   gives : (o u : ObjNo) (unlocked : Unlocked) → MayUnlock S o u unlocked → CanGive S u o
-  gives o u unlocked may = record { thread = owes_in u may.thread; object = small o may.object; places = let two = places u in omega arith }
+  gives o u unlocked may = record { thread = owes_in u may.thread; object = small o (alive_made o may.object); places = let two = places u in omega arith }
 
   -- the waiter to whom a mutex is passed may take it
-  takes_passed : (o u w : ObjNo) → o.0 < length S.references.objects → is_some (thread_of S u) ≡ true → WaitsNowhere S u
+  takes_passed : (o u w : ObjNo) → IsAlive (object_of S o) → is_some (thread_of S u) ≡ true → WaitsNowhere S u
       → IsOwn (owner_at S.synchronization.locks o) u → best_waiter (priority_of S) S.synchronization.locks o ≡ Some w
       → CanTake S (not_holding S.synchronization.mutexes u o) w o
-  takes_passed o u w object thread nowhere own best =
+  takes_passed o u w alive thread nowhere own best =
       let among : is_among w (waiters_at S.synchronization.locks o) ≡ true = greatest_listed (priority_of S) (waiters_at S.synchronization.locks o) w best in
       let awaits = rows.synchronization.locks.waiters w o among in
       let there = in_mutexes u thread in
-      let once = held_once (length S.references.objects) S.references.threads
-      (parts S) rows.synchronization.locks rows.references.sized.objects_few o object u own.own own.is own.thread there
+      let made = alive_there (object_of S o) alive in
+      let once = held_once S.references.objects S.references.threads
+      (parts S) rows.synchronization.locks rows.references.sized.objects_few o made u own.own own.is own.thread there
       (nowhere o) in
-      let none = given_none (length S.references.objects) S.references.threads
-      (parts S) rows.synchronization.locks rows.references.sized.objects_few o object u own.own own.is own.thread there
+      let none = given_none S.references.objects S.references.threads
+      (parts S) rows.synchronization.locks rows.references.sized.objects_few o made u own.own own.is own.thread there
       (nowhere o) in
       let counted : 0 < count_of S o = let at = total_at_least (total (mutex_names o)) S.synchronization.mutexes u.0 [] there in omega arith in
       record {
         thread = let a = inside S.references.threads w.0 awaits.row awaits.is in let b = rows.references.sized.duties in omega arith;
-        object = small o object;
+        object = small o (alive_made o alive);
         free = none_has o (not_holding S.synchronization.mutexes u o) none;
         referred = referred o counted;
       }
@@ -183,7 +184,7 @@ module _ (script : Script) (S : State) (rows : AreRows script S) (known : AreKno
 
   -- and one that gives up all levels
   frees : (o u : ObjNo) (best : Option ObjNo) → MayFree S o u best → CanGive S u o
-  frees o u best may = record { thread = owes_in u may.thread; object = small o may.object; places = let two = places u in omega arith }
+  frees o u best may = record { thread = owes_in u may.thread; object = small o (alive_made o may.object); places = let two = places u in omega arith }
 
   frees_may : (o u : ObjNo) (best : Option ObjNo) → MayFree S o u best → FreeMay S o u best
   frees_may o u None may = frees o u None may
@@ -194,15 +195,15 @@ module _ (script : Script) (S : State) (rows : AreRows script S) (known : AreKno
   )
 
   pub can_lock : (t : ObjNo) (m : LockMove) → FitsLocks t m S → CanLock m S
-  can_lock t (Start o count) fits = (placed o fits.object, fits.few, fits.free, fits.alone)
+  can_lock t (Start o count) fits = (placed o (alive_made o fits.object), fits.few, fits.free, fits.alone)
   can_lock t (Lock o u locked) fits = (joins o u _ (counted_made o fits.counted) fits.joins, fits.answer, locks_may o u locked fits)
-  can_lock t (Unlock o u unlocked) fits = (placed o fits.1.object, fits.1.answer, unlocks_may o u unlocked fits.1)
+  can_lock t (Unlock o u unlocked) fits = (placed o (alive_made o fits.1.object), fits.1.answer, unlocks_may o u unlocked fits.1)
   can_lock t (Free o u best) fits = (
-    placed o fits.1.object,
+    placed o (alive_made o fits.1.object),
     is_owned (owner_at S.synchronization.locks o) fits.1.owns.owner fits.1.owns.is,
     fits.1.chosen,
     frees_may o u best fits.1,
   )
   can_lock t (Leave u) fits = let a = thread_inside S.references.threads u.0 fits in let b = rows.references.sized.threads_few in omega arith
   can_lock t (WaitOn o u) fits = joins o u _ (alive_made o fits.alive) fits.joins
-  can_lock t (Signal o signalled) fits = (placed o fits.object, fits.answer)
+  can_lock t (Signal o signalled) fits = (placed o (alive_made o fits.object), fits.answer)

@@ -2,7 +2,7 @@
 -- they don't touch.
 use Rattle.std.proofs.Common.{◌≡◌, ◌⊎◌, inl, inr, ℕ, ◌+◌, ◌<◌, ◌≤◌, List, [], ◌∷◌, length, get_or, arith, refl, sym, ap, subst, ◌∙◌, Bool, true, false}
 use Rattle.std.specs.Prelude.{◌==◌, IsTrue, is_some, Option, Some, None}
-use Rattle.std.proofs.lemmas.Bool.{cases_Bool, cases_lt, eq-eqb}
+use Rattle.std.proofs.lemmas.Bool.{cases_Bool, cases_lt, eq-eqb, or_left}
 use Rattle.std.proofs.lemmas.List.{get_or_past}
 use Rattle.sym_base.specs.declared.kind.Kind.{Kind}
 use Rattle.sym_base.specs.declared.number.ObjNo.{ObjNo}
@@ -13,7 +13,7 @@ use Rattle.entry_log.specs.declared.step.Part.{Part}
 use Rattle.state_rows.specs.declared.duty.Owed.{Owed}
 use Rattle.state_rows.specs.declared.duty.Owed.TheVariants.{Close, Sweep}
 use Rattle.state_rows.specs.declared.object.ObjectRow.{ObjectRow}
-use Rattle.state_rows.specs.ObjectRows.{is_dead_row, is_session}
+use Rattle.state_rows.specs.ObjectRows.{is_dead_row, is_session, place_of}
 use Rattle.objects.specs.Rows.{kept_name}
 use Rattle.machine.specs.declared.moves.Move.{Move}
 use Rattle.machine.specs.declared.moves.Move.TheVariants.{Make, Gain, Lose, Find, Open, Miss, GoOn, Keep, Write, WriteMessage, PutDown, Advance, Wait, Wake, SetPriority, Nano, Deferred, Requests, Locks, Logons, Death, Servers, Messages, Fill, Copies, Pay}
@@ -32,12 +32,19 @@ use Rattle.machine.specs.NanoMoves.{nano_thread}
 use Rattle.machine.specs.Fits.{ComesBack, FitsNano, FitsRequests, HasName, FitsMove, EachFits, Sane, most_owed}
 use Rattle.machine.specs.Moves.{moved, told, closed_effects, threads_lose, with_found, with_opened, with_missed, with_kept, with_message, with_use, with_part, with_register, with_waiting, with_priority, advanced, next_object, use_of_row}
 use Rattle.machine.specs.Out.{outs_of}
-use Rattle.machine.specs.References.{total, same, count_of, pluses, minuses, RefsMove}
+use Rattle.machine.specs.References.{total, same, count_of, option_names, pluses, minuses, session_names, RefsMove}
+use Rattle.machine.specs.Serving.{is_over}
+use Rattle.state_rows.specs.ServerChanges.{IsAlone}
+use Rattle.state_rows.specs.ServerRows.{holds, link_of, linked_at, server_of, session_at}
+use Rattle.state_rows.specs.declared.servers.ServerRows.{ServerRows}
+use Rattle.state_rows.specs.declared.servers.SessionRow.{SessionRow}
 use Rattle.machine.specs.Rows.{object_of, thread_of, owed_of}
 use Rattle.machine.specs.WellFormed.{IsAlive, AreRows, AreRequests, is_dead, dead_bit, owed_sweeps, weight}
 use Rattle.move_laws.proofs.Holders.ThreadRows.{row-other}
-use Rattle.move_laws.proofs.Lists.Totals.{inside, total_at_least}
-use Rattle.move_laws.proofs.MoveLaws.Pays.{sweep-over}
+use Rattle.move_laws.proofs.Lists.Totals.{inside, total_any, total_at_least}
+use Rattle.move_laws.proofs.Lives.NewObjects.{next_number_is}
+use Rattle.move_laws.proofs.Lives.Places.{Renews}
+use Rattle.move_laws.proofs.MoveLaws.Pays.{sweep-over, sweep-uncounted}
 use Rattle.move_laws.proofs.MoveLaws.RowMoves.{returning_before}
 use Rattle.move_laws.proofs.MoveLaws.Run.{sound-move, sound-pay, sane-after, refs-of, weight-move}
 use Rattle.move_laws.proofs.Numbers.CountSmall.{count_small}
@@ -47,7 +54,7 @@ use Rattle.move_laws.proofs.Readiness.Touched.{untouched}
 use Rattle.move_laws.proofs.References.Same.{same_self}
 use Rattle.machine_laws.proofs.Fitting.Regular.{coming_bit}
 use Rattle.machine_laws.proofs.Reached.Modes.{mode-moved}
-use Rattle.machine_laws.proofs.Sharing.Seekers.{stays-out, stays-out-pay}
+use Rattle.machine_laws.proofs.Sharing.Seekers.{seeks-pay, seeks-same}
 use Rattle.kernel_tables.specs.Moved.{CanMove, AreKnown, MoveGoes, MoveRuns, MovesGo, MovesRun, UsesNothing, is_set}
 use Rattle.kernel_tables.specs.Referred.{IsReferred}
 use Rattle.kernel_tables.proofs.GoingHolders.{few_places, one_place, may_gain, takes_least, may_make, makes_least, may_lose}
@@ -86,8 +93,7 @@ next_fresh : (script : Script) (S : State) → AreRows script S → count_of S (
 next_fresh script S rows = elim (cases_lt 0 (count_of S (next_object S))) [
   | inl some ↦
       let alive = rows.lives.alive (next_object S) some in
-      let none = get_or_past S.references.objects (length S.references.objects) None (omega arith) in
-      absurd (subst IsAlive none alive)
+      absurd (subst IsAlive (next_number_is S.mode.reuse S.references.objects).1 alive)
   | inr none_is_left ↦ omega arith
 ]
 
@@ -108,6 +114,45 @@ swept_dead script S t o rest rows lt is =
     let self = same_self o in
     let dead = rows.lives.sweeps o in
     counted_dead (object_of S o) (omega arith)
+
+-- so its number is one of the tables', and it is linked to nothing
+swept_inside : (objects : List (Option ObjectRow)) (o : ℕ) → IsTrue (is_dead_row (get_or objects o None)) → o < length objects
+swept_inside objects o dead = elim (cases_lt o (length objects)) [
+  | inl there ↦ there
+  | inr past ↦ let none = get_or_past objects o None past in absurd (cc (rw none at dead))
+]
+
+dead_over : (row : Option ObjectRow) → IsTrue (is_dead_row row) → is_over row ≡ true
+dead_over None dead = refl
+dead_over (Some row) dead = dead
+
+-- an object that nothing refers to has no sessions
+unlisted : (r : ServerRows) (o : ObjNo) → ((s : ObjNo) → holds s (linked_at r o) ≡ true → ⊥) → linked_at r o ≡ []
+unlisted r o none = by (linked_at r o) refl
+  where
+    by : (l : List ObjNo) → linked_at r o ≡ l → linked_at r o ≡ []
+    by [] is = is
+    by (s ∷ rest) is =
+        let first : holds s (s ∷ rest) ≡ true = or_left (s.0 == s.0) (holds s rest) (eq-eqb s.0 s.0 refl) in
+        absurd (none s (ap (holds s) is ∙ first))
+
+linked_counts : (r : ServerRows) (s o : ObjNo) → server_of r s ≡ Some o → 0 < total (session_names o) r.sessions
+linked_counts r s o is =
+    let within = total_any (session_names o) r.sessions s.0 None refl in
+    let named = link_counts (session_at r s) o is in
+    omega arith
+  where
+    link_counts : (x : Option SessionRow) (o : ObjNo) → link_of x ≡ Some o → session_names o x ≡ 1
+    link_counts None o is = absurd (cc)
+    link_counts (Some row) o is = ap (option_names o) is ∙ same_self o
+
+swept_alone : (script : Script) (S : State) (o : ObjNo) → AreRows script S → IsTrue (is_dead_row (object_of S o)) → count_of S o ≡ 0
+    → IsAlone S.serving.servers o
+swept_alone script S o rows dead none = record {
+  no_session = unlisted S.serving.servers o (λ s listed.
+      let some = linked_counts S.serving.servers s o (rows.serving.servers.linked s o listed) in absurd (omega arith));
+  no_server = rows.serving.servers.sessions_over o (dead_over (object_of S o) dead);
+}
 
 -- and uses nothing
 swept_unused : (script : Script) (S : State) (t o : ObjNo) (rest : List Owed) (row : Option ThreadRow) → Sane script t S
@@ -287,7 +332,7 @@ ranks_move script S t (Copies m) u fits unset = refl
 ranks_move script S t (Make kind name h) u fits unset = rank-gain S.references.threads h (next_object S) u
 ranks_move script S t (Gain h o) u fits unset = rank-gain S.references.threads h o u
 ranks_move script S t (Lose h o) u fits unset = rank-closed (threads_lose h S.references.threads) _ o u ∙ rank-lose S.references.threads h u
-ranks_move script S t (Find v o) u fits unset = rank-with_row S.references.threads v (with_found o) u (λ r. refl)
+ranks_move script S t (Find v o) u fits unset = rank-with_row S.references.threads v (with_found o (place_of (object_of S o))) u (λ r. refl)
 ranks_move script S t (Open v o part) u fits unset = rank-with_row S.references.threads v (with_opened o part) u (λ r. refl)
 ranks_move script S t (Miss v o) u fits unset = rank-with_row S.references.threads v with_missed u (λ r. refl)
 ranks_move script S t (GoOn v part) u fits unset = rank-with_row S.references.threads v (with_part part) u (λ r. refl)
@@ -299,6 +344,14 @@ ranks_move script S t (Messages m) u fits unset = refl
 ranks_move script S t (Write v x value) u fits unset = rank-with_row S.references.threads v (with_register x value) u (λ r. refl)
 ranks_move script S t (Advance v) u fits unset = rank-with_row S.references.threads v advanced u (λ r. refl)
 ranks_move script S t (Pay what) u fits unset = absurd fits
+
+-- an object whose place was given stood at its number
+stays-at : (S T : State) → Renews S T → (o : ObjNo) (row : ObjectRow) → object_of T o ≡ Some row → row.place < S.references.made
+    → IsThere (object_of S o) × (place_of (object_of S o) ≡ row.place)
+stays-at S T renews o row is low = elim (renews.stood o.0 row is) as (λ _. IsThere (object_of S o) × (place_of (object_of S o) ≡ row.place)) [
+  | inl stood ↦ (rw stood.1 refl, rw stood.1 stood.2)
+  | inr new ↦ absurd (omega arith)
+]
 
 -- what a move that fits leaves is in order
 move_runs : (script : Script) (S : State) (t : ObjNo) (m : Move) → FitsMove script t m S
@@ -313,7 +366,8 @@ move_runs script S t m fits few s =
       numbered = omega arith;
       ranks = λ u unset. ranks_move script S t m u fits unset;
       apart = λ u none. untouched script S t m u s.rows.references.threads (joins_own script S t m fits) none;
-      out = stays-out script S t m fits;
+      out = λ u o p apart seeking. let same = seeks-same script S t m fits u o p (λ at. absurd (apart (sym at))) in omega arith;
+      stays = stays-at S T sound.lives.renews;
     }
 
 pub each_runs : (script : Script) (S : State) (t : ObjNo) (ms : List Move) → EachFits script t ms S
@@ -356,8 +410,18 @@ can_pay : (script : Script) (S : State) (t : ObjNo) (what : Owed) (rest : List O
 can_pay script S t (Close h o) rest owes refs s =
     (referred script S o s.rows (was_held S (moved t (Pay (Close h o)) S) _ h o refs), few_places script S t s.rows)
 can_pay script S t (Sweep o) rest owes refs s =
-    let dead = swept_dead script S t o rest s.rows (let long = s.rows.references.sized.duties in let there = s.inside in omega arith) owes in
-    (dead, swept_unused script S t o rest (thread_of S o) s owes refl)
+    let here : t.0 < length S.references.owed = let long = s.rows.references.sized.duties in let there = s.inside in omega arith in
+    let dead = swept_dead script S t o rest s.rows here owes in
+    let inside = swept_inside S.references.objects o.0 dead in
+    let few = s.rows.references.sized.objects_few in
+    let none = sweep-uncounted script S t o rest owes here s.rows in
+    record {
+      dead = dead;
+      unused = swept_unused script S t o rest (thread_of S o) s owes refl;
+      locks = let sized = s.rows.synchronization.locks.owners_sized in omega arith;
+      servers = let sized = s.rows.serving.servers.servers_sized in omega arith;
+      alone = swept_alone script S o s.rows dead none;
+    }
 
 ranks_pay : (script : Script) (S : State) (t : ObjNo) (what : Owed) (u : ObjNo) → is_set (Pay what) u ≡ false
     → priority_of (moved t (Pay what) S) u ≡ priority_of S u
@@ -379,6 +443,7 @@ pay_goes script S t what rest owes s =
         numbered = let few = sound.rows.serving.messages.numbered in omega arith;
         ranks = λ u unset. ranks_pay script S t what u unset;
         apart = λ u none. untouched script S t (Pay what) u s.rows.references.threads tt none;
-        out = λ u o apart. stays-out-pay script S t what rest owes s.rows u o;
+        out = λ u o p apart seeking. let same = seeks-pay script S t what rest owes s.rows u o p in omega arith;
+        stays = stays-at S T sound.lives.renews;
       };
     }

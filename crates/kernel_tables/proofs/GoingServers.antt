@@ -14,8 +14,9 @@ use Rattle.state_rows.specs.declared.messages.MessageRows.{MessageRows}
 use Rattle.state_rows.specs.declared.messages.MsgRow.{MsgRow}
 use Rattle.state_rows.specs.MessageChanges.{added, new_row}
 use Rattle.state_rows.specs.MessageRows.{has_number, message_of, most_messages}
-use Rattle.state_rows.specs.ServerRows.{link_of, server_at}
+use Rattle.state_rows.specs.ServerRows.{is_to_open, link_of, server_at, session_at}
 use Rattle.state_rows.specs.declared.servers.ServerRow.{ServerRow}
+use Rattle.state_rows.specs.declared.servers.SessionRow.{SessionRow}
 use Rattle.messages.specs.Calls.{after_accept, finished_of, is_busy}
 use Rattle.messages.specs.declared.answers.Finished.{Finished}
 use Rattle.machine.specs.declared.message_move.MessageMove.{MessageMove}
@@ -26,9 +27,12 @@ use Rattle.machine.specs.declared.state.State.{State}
 use Rattle.machine.specs.FitsServers.{FitsMessages, FitsServers, HasSlot, MayAccept}
 use Rattle.machine.specs.MessageMoves.{closes_of}
 use Rattle.machine.specs.References.{count_of, mutex_names}
+use Rattle.machine.specs.Rows.{object_of}
 use Rattle.machine.specs.ServerMoves.{owned_by}
 use Rattle.machine.specs.WellFormed.{AreRows}
 use Rattle.move_laws.proofs.Lists.Totals.{total_at_least}
+use Rattle.move_laws.proofs.Lives.Bits.{alive_there, there_inside}
+use Rattle.move_laws.proofs.Lives.NewObjects.{next_number_is}
 use Rattle.move_laws.proofs.References.Same.{same_self}
 use Rattle.move_laws.proofs.RowLaws.FewMessages.{room_for_message}
 use Rattle.kernel_tables.specs.Referred.{HasPlaces, IsReferred}
@@ -82,22 +86,28 @@ some_server : (row : Option ServerRow) (server : ServerRow) → row ≡ Some ser
 some_server None server is = absurd (cc)
 some_server (Some row) server is = refl
 
+-- a session that can be opened is one
+opening_session : (row : Option SessionRow) → is_to_open row ≡ true → IsSome row
+opening_session None opens = absurd (cc)
+opening_session (Some row) opens = refl
+
 module _ (script : Script) (S : State) (rows : AreRows script S) (referred : (o : ObjNo) → 0 < count_of S o → IsReferred S o) where
   pub can_serve : (m : ServerMove) → FitsServers m S → CanServe m S
   can_serve (Start o u) fits =
       let sized = rows.serving.servers.servers_sized in
       let next = ap (λ (x : ObjNo). x.0) fits.next in
-      let room = fits.room in (
+      let room = fits.room in
+      let none : object_of S o ≡ None = ap (object_of S) fits.next ∙ (next_number_is S.mode.reuse S.references.objects).1 in (
         omega arith,
         record {
-          no_session = rows.serving.servers.linked_made o (omega arith);
-          no_server = ap link_of (rows.serving.servers.sessions_made o (omega arith));
+          no_session = rows.serving.servers.linked_made o none;
+          no_server = ap link_of (rows.serving.servers.sessions_made o none);
         },
       )
   can_serve (Join s o slots u) fits =
       let sized = rows.serving.servers.servers_sized in
       let few = rows.references.sized.objects_few in
-      let made = fits.made in
+      let made = there_inside S.references.objects s.0 (alive_there (object_of S s) fits.alive) in
       (omega arith, fits.alone, fits.server, fits.accepts, referred o fits.counted)
   can_serve (Closing o) fits = fits
   can_serve (CloseAll u) fits = λ k d inside.
@@ -106,7 +116,7 @@ module _ (script : Script) (S : State) (rows : AreRows script S) (referred : (o 
       let one = same_self o in
       let owns = rows.serving.servers.owners u o (omega arith) in
       some_server (server_at S.serving.servers o) owns.row owns.is
-  can_serve (SetOpen s true) fits = fits.0
+  can_serve (SetOpen s true) fits = opening_session (session_at S.serving.servers s) fits.0
   can_serve (SetOpen s false) fits = fits
   can_serve (End o) fits = tt
 

@@ -1,8 +1,9 @@
 -- The moves of an action, one after the other.
 use Rattle.std.proofs.Common.{◌≡◌, ◌⊎◌, inl, inr, ℕ, Bool, true, false, ◌+◌, ◌<◌, ◌≤◌, List, [], ◌∷◌, ◌++◌, length, get_or, drop, suc, drop-cons, add-one, arith, refl, sym, ap, subst, ◌∙◌, append_assoc, append-nil, length-append}
-use Rattle.std.specs.Prelude.{◌==◌, ◌&&◌, if◌then◌else◌, Some, None}
+use Rattle.std.specs.Prelude.{◌==◌, ◌&&◌, if◌then◌else◌, Option, Some, None}
 use Rattle.std.proofs.Math.ListN.{drop_of_length-le}
 use Rattle.std.proofs.lemmas.Bool.{cases_lt, eq-eqb, or_left, or_right}
+use Rattle.sym_base.specs.declared.limits.TheConstants.Limits.{OBJECTS}
 use Rattle.sym_base.specs.declared.number.ObjNo.{ObjNo}
 use Rattle.script_types.specs.declared.script.Script.{Script}
 use Rattle.entry_log.specs.declared.effect.Effect.{Effect}
@@ -13,25 +14,31 @@ use Rattle.ready_list.specs.Ready.{Ready}
 use Rattle.ready_list.specs.Arrival.{AreQueuesOf}
 use Rattle.machine.specs.declared.mode.Mode.{Mode}
 use Rattle.machine.specs.declared.moves.Move.{Move}
-use Rattle.machine.specs.declared.moves.Move.TheVariants.{Lose, Pay}
+use Rattle.machine.specs.declared.moves.Move.TheVariants.{Lose, Make, Pay}
 use Rattle.machine.specs.declared.state.State.{State}
 use Rattle.machine.specs.Arrivals.{is_listed, arrive, arrivals, taken_out, touched}
 use Rattle.machine.specs.Choice.{priority_of}
-use Rattle.machine.specs.Fits.{ComesBack}
 use Rattle.machine.specs.History.{is_deathless, keeping}
 use Rattle.machine.specs.Kept.{dies}
 use Rattle.machine.specs.Moves.{closed_effects, moved, told, perform, tell}
+use Rattle.machine.specs.Out.{seeks}
 use Rattle.machine.specs.References.{count_of, total, RefsMove}
+use Rattle.machine.specs.Rows.{object_of, thread_of}
+use Rattle.state_rows.specs.declared.object.ObjectRow.{ObjectRow}
+use Rattle.state_rows.specs.ObjectRows.{next_number, place_of}
+use Rattle.objects.specs.Calls.{next_place}
+use Rattle.move_laws.proofs.Lists.Totals.{total-append}
 use Rattle.machine_laws.proofs.Reached.Choices.{blind-all, close_bit}
 use Rattle.machine_laws.proofs.Reached.Modes.{mode-moved, mode-perform}
 use Rattle.readings.specs.Dying.{dead_by, dead_told, told_alive}
 use Rattle.readings.proofs.Telling.{told_dead}
 use Rattle.table_moves.specs.Notes.{Notes, HasNoteOf}
+use Rattle.table_moves.specs.ObjectsView.{IsThere}
 use Rattle.kernel_tables.specs.declared.tables.Tables.{Tables}
 use Rattle.kernel_tables.specs.Counts.{Agrees}
 use Rattle.kernel_tables.specs.Noted.{AreKept}
-use Rattle.kernel_tables.specs.Choosing.{AreSoughtBeside, closing_bit, mode_after}
-use Rattle.kernel_tables.specs.Moved.{IsMoved, IsMovedTo, MoveGoes, MoveRuns, MovesGo, chosen_state}
+use Rattle.kernel_tables.specs.Choosing.{AreNotesMade, AreSoughtBeside, IsSoughtBy, closing_bit, mode_after}
+use Rattle.kernel_tables.specs.Moved.{CanMove, IsMoved, IsMovedTo, MoveGoes, MoveRuns, MovesGo, chosen_state, making_bit}
 use Rattle.kernel_tables.specs.Performed.{IsPerformed}
 use Rattle.kernel_tables.specs.ReadyQueues.{AreReady, Follow, pair, pairs, leave, leave_along}
 use Rattle.kernel_tables.specs.StateOf.{state_of}
@@ -278,31 +285,93 @@ performed_one script t m old new before between after was goes is out follow =
       keeps = ap (λ (mode : Mode). mode.keep) is.mode ∙ keeps_by script t m S old.mode;
     }
 
+-- a choice leaves the numbers used again or not
+reuse_after : (dead : Option ObjNo) (mode : Mode) → (mode_after dead mode).reuse ≡ mode.reuse
+reuse_after None mode = refl
+reuse_after (Some o) mode = refl
+
 -- what the tables keep beside the rows is kept
 pub still_kept : {W N : Type 0} {notes : Notes} (script : Script) (t : ObjNo) (m : Move) (old new : Tables W N)
-    → MoveRuns script t m (chosen_state old new) → AreKept old → IsMovedTo notes t m old new → AreKept new
-still_kept script t m old new goes kept is = record {
+    → notes.places ≡ old.objects.notes.places → MoveRuns script t m (chosen_state old new) → AreKept old → IsMovedTo notes t m old new → AreKept new
+still_kept script t m old new same goes kept is = record {
   counts = still_agree t m old new kept.counts goes.refs is;
   tied = is.tied;
   numbered = subst (λ (U : State). U.serving.messages.accepted < 2147483648) (sym is.state) goes.numbered;
+  reuses = is.reuse ∙ kept.reuses ∙ sym (ap (λ (mode : Mode). mode.reuse) is.mode ∙ reuse_after (dead_by m (chosen_state old new)) old.mode);
+  placed = λ first.
+      let most = kept.placed (sym is.reuse ∙ first) in
+      let left = ap (λ (n : Notes). n.places) is.notes in
+      omega arith;
 }
 
--- and others who are out account for the notes
-pub still_sought : {W N : Type 0} (script : Script) (t : ObjNo) (m : Move) (old new : Tables W N)
-    → MoveRuns script t m (chosen_state old new) → IsMoved t m old new
-    → AreSoughtBeside t old.objects.notes (state_of old) → AreSoughtBeside t new.objects.notes (state_of new)
-still_sought script t m old new goes is sought o noted =
+-- how many objects were made
+made_moved : (t : ObjNo) (m : Move) (S : State) → (moved t m S).references.made ≡ S.references.made + making_bit m
+made_moved t (Make kind name h) S = omega arith
+made_moved t (Pay (Close h o)) S = omega arith
+made_moved t (Pay (Sweep o)) S = omega arith
+made_moved t _ S = omega arith
+
+pub made_performed : (t : ObjNo) (ms : List Move) (S : State) → (perform t ms S).references.made ≡ S.references.made + total making_bit ms
+made_performed t [] S = omega arith
+made_performed t (m ∷ ms) S = let first = made_moved t m S in let rest = made_performed t ms (moved t m S) in omega arith
+
+-- a move that makes an object has a number for it
+can_room : (t : ObjNo) (m : Move) (S : State) → CanMove t m S → 0 < making_bit m → next_number S.mode.reuse S.references.objects < OBJECTS
+can_room t (Make kind name h) S can some = can.2.room
+can_room t (Pay (Close h o)) S can some = absurd (omega arith)
+can_room t (Pay (Sweep o)) S can some = absurd (omega arith)
+can_room t _ S can some = absurd (omega arith)
+
+-- and so a place in the words
+place_in : (reuse : Bool) (rows : List (Option ObjectRow)) (made places : ℕ) → (reuse ≡ true → made < places)
+    → (reuse ≡ false → OBJECTS ≤ places) → next_number reuse rows < OBJECTS → next_place reuse rows made < places
+place_in true rows made places again most room = again refl
+place_in false rows made places again most room = let all = most refl in omega arith
+
+-- notes are still of places of objects that were made
+pub made-move : (t : ObjNo) (m : Move) (notes : Notes) (S : State) → AreNotesMade notes S → AreNotesMade notes (moved t m S)
+made-move t m notes S made p noted = let low = made p noted in let more = made_moved t m S in omega arith
+
+-- and others who are out account for them
+pub sought-move : (script : Script) (t : ObjNo) (m : Move) (notes : Notes) (S : State) → MoveRuns script t m S → AreNotesMade notes S
+    → AreSoughtBeside t notes S → AreSoughtBeside t notes (moved t m S)
+sought-move script t m notes S goes made sought o there noted = by (object_of (moved t m S) o) refl there
+  where
+    by : (x : Option ObjectRow) → object_of (moved t m S) o ≡ x → IsThere x → (u : ObjNo) × IsSoughtBy (moved t m S) u o × (u.0 ≡ t.0 → ⊥)
+    by None at none = absurd (cc)
+    by (Some row) at some =
+        let place : place_of (object_of (moved t m S) o) ≡ row.place = ap place_of at in
+        let of_place : HasNoteOf notes row.place = subst (HasNoteOf notes) place noted in
+        let stood = goes.stays o row at (made row.place of_place) in
+        let was = sought o stood.0 (subst (HasNoteOf notes) (sym stood.1) of_place) in
+        let u = was.0 in
+        let out : 0 < seeks o row.place (thread_of S u) = subst (λ (p : ℕ). 0 < seeks o p (thread_of S u)) stood.1 was.1.out in
+        let now = goes.out u o row.place was.2 out in (
+          u,
+          record {
+            shared = ap (λ (mode : Mode). mode.shared) (mode-moved S t m) ∙ was.1.shared;
+            out = subst (λ (p : ℕ). 0 < seeks o p (thread_of (moved t m S) u)) (sym place) now;
+          },
+          was.2,
+        )
+
+-- the same of tables
+pub still_made : {W N : Type 0} (t : ObjNo) (m : Move) (old new : Tables W N) → IsMoved t m old new
+    → AreNotesMade old.objects.notes (state_of old) → AreNotesMade new.objects.notes (state_of new)
+still_made t m old new is made =
     let S = chosen_state old new in
-    let was = sought o (subst (λ (notes : Notes). HasNoteOf notes o.0) is.notes noted) in
-    let u = was.0.finder in
-    let back = goes.out u o was.1 (record { row = was.0.back.row; is = was.0.back.is; returns = was.0.back.returns; found = was.0.back.found }) in (
-      record {
-        shared = ap (λ (U : State). U.mode.shared) is.state ∙ ap (λ (mode : Mode). mode.shared) (mode-moved S t m) ∙ was.0.shared;
-        finder = u;
-        back = subst (λ (U : State). ComesBack U u o) (sym is.state) back;
-      },
-      was.1,
-    )
+    subst (AreNotesMade new.objects.notes) (sym is.state)
+    (subst (λ (n : Notes). AreNotesMade n (moved t m S)) (sym is.notes) (made-move t m old.objects.notes S made))
+
+pub still_sought : {W N : Type 0} (script : Script) (t : ObjNo) (m : Move) (old new : Tables W N)
+    → MoveRuns script t m (chosen_state old new) → IsMoved t m old new → AreNotesMade old.objects.notes (state_of old)
+    → AreSoughtBeside t old.objects.notes (state_of old) → AreSoughtBeside t new.objects.notes (state_of new)
+still_sought script t m old new goes is made sought =
+    let S = chosen_state old new in
+    let here : AreSoughtBeside t old.objects.notes S = λ o there noted.
+    let was = sought o there noted in (was.0, record { shared = was.1.shared; out = was.1.out }, was.2) in
+    subst (AreSoughtBeside t new.objects.notes) (sym is.state)
+    (subst (λ (n : Notes). AreSoughtBeside t n (moved t m S)) (sym is.notes) (sought-move script t m old.objects.notes S goes made here))
 
 -- on the way: some of the moves were made, and the rest aren't yet
 pub record OnTheWay (script : Script) (t : ObjNo) (ms : List Move) (old : State) (before : Ready) (was : List Effect)
@@ -353,6 +422,21 @@ module _ (script : Script) (t : ObjNo) (ms : List Move) (old : State) (before : 
       let so_far : length effects ≡ length (was ++ tell t h.made U) = ap length (h.performed.told ∙ ap (λ (l : List Effect). was ++ l) (sym comes.tells)) in
       let sum = length-append was (tell t h.made U) in
       omega arith
+
+  -- the words have a place for what it makes
+  pub way_place : (places : ℕ) → total making_bit ms ≤ 1 → (old.mode.reuse ≡ true → old.references.made < places)
+      → (S.mode.reuse ≡ false → OBJECTS ≤ places) → CanMove t m S → 0 < making_bit m
+      → next_place S.mode.reuse S.references.objects S.references.made < places
+  way_place places makes room most can some =
+      let U = keeping S.mode.keep old in
+      let all = ap (total making_bit) h.whole in
+      let sum = total-append making_bit h.made (m ∷ rest) in
+      let came = made_performed t h.made U in
+      let now : S.references.made ≡ (perform t h.made U).references.made = ap (λ (V : State). V.references.made) h.performed.state in
+      let same : S.mode.reuse ≡ old.mode.reuse =
+      ap (λ (V : State). V.mode.reuse) h.performed.state ∙ ap (λ (mode : Mode). mode.reuse) (mode-perform U t h.made) in
+      place_in S.mode.reuse S.references.objects S.references.made places
+      (λ again. let left = room (sym same ∙ again) in omega arith) most (can_room t m S can some)
 
   -- where it gives a reference up, nothing is chosen yet
   pub way_may : old.mode.keep ≡ old.mode.shared → closing_bit m ≡ 1 → S.mode.keep ≡ S.mode.shared

@@ -16,7 +16,7 @@ use Rattle.machine.specs.declared.state.State.{State}
 use Rattle.machine.specs.declared.task.Task.{Task}
 use Rattle.machine.specs.Out.{is_returning}
 use Rattle.machine.specs.Rows.{first_owed, thread_of}
-use Rattle.machine.specs.Task.{by_stage, instruction, is_ready, is_stopped, is_wait, is_waiting_row, live_task, pay_or, return_or, task_of_row}
+use Rattle.machine.specs.Task.{by_stage, is_ready, is_wait, live_task, pay_or}
 use Rattle.kernel_tables.specs.RunsOn.{is_busy, runs_on}
 
 -- who is busy has something to do, whatever comes before it
@@ -46,4 +46,5 @@ runs_ready script S t row there runs none =
     let first = and_parts (is_busy row.stage row.role) (not (is_wait row.waiting)) parts.0 in
     let here : is_returning row.part ≡ false = not-true (is_returning row.part) parts.1 in
     let awake : is_wait row.waiting ≡ false = not-true (is_wait row.waiting) first.1 in
-    rw (there, none, awake, here) (goes_on S.mode.shared (is_protected S.synchronization.nano t) _ (busy_some row.stage row.role (first_owed S t) _ _ _ first.0))
+    rw (there, none, awake, here) (goes_on S.mode.shared (is_protected S.synchronization.nano t) _
+    (busy_some row.stage row.role (first_owed S t) _ _ _ first.0))

@@ -7,9 +7,12 @@ use Rattle.sym_base.specs.declared.number.ObjNo.{ObjNo}
 use Rattle.entry_log.specs.declared.effect.Holder.{Holder}
 use Rattle.entry_log.specs.declared.effect.Holder.TheVariants.{InProcess, InThread, Temp, Own}
 use Rattle.state_rows.specs.declared.duty.Owed.TheVariants.{Close, Sweep}
+use Rattle.state_rows.specs.declared.object.ObjectRow.{ObjectRow}
 use Rattle.state_rows.specs.declared.handle_slot.HandleSlot.{HandleSlot}
 use Rattle.state_rows.specs.HandleSlots.{free_index}
-use Rattle.state_rows.specs.ObjectRows.{is_taken, is_dead_row}
+use Rattle.state_rows.specs.ObjectRows.{is_taken, is_dead_row, place_of}
+use Rattle.state_rows.specs.ServerChanges.{IsAlone}
+use Rattle.objects.specs.Calls.{next_place}
 use Rattle.objects.specs.Rows.{kept_name}
 use Rattle.machine.specs.declared.moves.Move.{Move}
 use Rattle.machine.specs.declared.moves.Move.TheVariants.{Make, Gain, Lose, Find, Open, Miss, GoOn, Keep, Write, WriteMessage, PutDown, Advance, Wait, Wake, SetPriority, Nano, Deferred, Requests, Locks, Logons, Death, Servers, Messages, Fill, Copies, Pay}
@@ -18,7 +21,8 @@ use Rattle.state_rows.specs.declared.thread.ThreadRow.{ThreadRow}
 use Rattle.script_types.specs.declared.script.Script.{Script}
 use Rattle.machine.specs.Moves.{moved, next_object, told, objects_closed, threads_closed, owed_by_close, use_of_row}
 use Rattle.machine.specs.Arrivals.{is_listed, touched}
-use Rattle.machine.specs.Fits.{ComesBack, FitsDeferred}
+use Rattle.machine.specs.Fits.{FitsDeferred}
+use Rattle.machine.specs.Out.{seeks}
 use Rattle.machine.specs.History.{keeping}
 use Rattle.machine.specs.FitsCopies.{FitsCopies}
 use Rattle.machine.specs.Choice.{priority_of}
@@ -37,6 +41,7 @@ use Rattle.kernel_tables.specs.Noted.{TiedTables}
 use Rattle.kernel_tables.specs.Referred.{HasPlaces, IsReferred}
 use Rattle.readings.specs.Dying.{dead_by}
 use Rattle.table_moves.specs.Notes.{Notes, HasNoteOf}
+use Rattle.table_moves.specs.ObjectsView.{IsThere}
 use Rattle.table_moves.specs.RequestMoved.{CanRequest}
 use Rattle.kernel_tables.specs.Choosing.{mode_after}
 use Rattle.kernel_tables.specs.StateOf.{state_of}
@@ -56,6 +61,22 @@ pub record UsesNothing (x : Option ThreadRow) : Type 0 where
 abbrev pub MayGain : State → Holder → Type 0
 MayGain S (Temp t) = UsesNothing (thread_of S t)
 MayGain S _ = Unit {0}
+
+-- 1 for a move that makes an object, and the words have a place for it
+abbrev pub making_bit : Move → ℕ
+making_bit (Make kind name h) = 1
+making_bit _ = 0
+
+abbrev pub HasPlaceFor : {W N : Type 0} → ℕ → Tables W N → Type 0
+HasPlaceFor makes tables = 0 < makes → next_place tables.objects.reuse tables.objects.rows tables.objects.made < tables.objects.notes.places
+
+-- all rows of an object may go: it is dead, uses nothing and is linked to nothing, and its number is one of the tables'
+pub record CanSweep (S : State) (o : ObjNo) : Type 0 where
+  pub dead : IsTrue (is_dead_row (object_of S o))
+  pub unused : use_of_row (thread_of S o) ≡ None
+  pub locks : o.0 < length S.synchronization.locks.owners
+  pub servers : o.0 < length S.serving.servers.servers
+  pub alone : IsAlone S.serving.servers o
 
 -- a place of a handle table is the least free one
 abbrev pub IsLeast : List HandleSlot → ℕ → Type 0
@@ -117,7 +138,7 @@ CanMove t (Messages m) S = CanMessage t m S
 CanMove t (Fill p at length byte) S = at + length ≤ 1024
 CanMove t (Copies m) S = FitsCopies m S
 CanMove t (Pay (Close h o)) S = IsReferred S o × HasPlaces 2 S t
-CanMove t (Pay (Sweep o)) S = IsTrue (is_dead_row (object_of S o)) × (use_of_row (thread_of S o) ≡ None)
+CanMove t (Pay (Sweep o)) S = CanSweep S o
 
 -- a move by which no reference is given up, and nothing is paid
 abbrev pub IsOther : Move → Type 0
@@ -137,6 +158,7 @@ pub record IsMovedTo {W N : Type 0} (left : Notes) (t : ObjNo) (m : Move) (old n
   pub tied : TiedTables new
   pub mode : new.mode ≡ mode_after (dead_by m (chosen_state old new)) old.mode
   pub notes : new.objects.notes ≡ left
+  pub reuse : new.objects.reuse ≡ old.objects.reuse
 
 -- and no note came or went
 abbrev pub IsMoved : {W N : Type 0} → ObjNo → Move → Tables W N → Tables W N → Type 0
@@ -158,15 +180,16 @@ closed last t o link S = record S {
   serving = record S.serving { servers = servers_closed last o S.serving.servers };
 }
 
--- it was the last only where it was the only one, and wasn't then only where a note of the object is out
+-- it was the last only where it was the only one, and wasn't then only where a note of the object's place is out
 pub record IsClosed {W N : Type 0} (t o : ObjNo) (link : Option ObjNo) (last : Bool) (old new : Tables W N) : Type 0 where
   pub state : state_of new ≡ closed last t o link (chosen_state old new)
   pub mode : new.mode ≡ mode_after (dead_of last o) old.mode
   pub counts : new.objects.counts ≡ slice_set old.objects.counts o.0 (slice_index old.objects.counts o.0 - 1)
   pub tied : TiedTables new
   pub notes : new.objects.notes ≡ old.objects.notes
+  pub reuse : new.objects.reuse ≡ old.objects.reuse
   pub only : last ≡ true → slice_index old.objects.counts o.0 ≡ 1
-  pub out : last ≡ false → slice_index old.objects.counts o.0 ≡ 1 → HasNoteOf old.objects.notes o.0
+  pub out : last ≡ false → slice_index old.objects.counts o.0 ≡ 1 → HasNoteOf old.objects.notes (place_of (slice_index_or old.objects.rows o.0 None))
 
 -- whether a move sets a thread's priority; one whose row is swept has none any more
 abbrev pub is_set : Move → ObjNo → Bool
@@ -175,14 +198,17 @@ is_set (Pay (Sweep o)) u = u.0 == o.0
 is_set _ u = false
 
 -- What a move in an action of thread t leaves is in order: the references move with what it tells, the numbers of messages so far have 31 bits,
--- priorities stay that it doesn't set, and so does the readiness of all threads that it doesn't touch; and other threads that are out stay so.
+-- priorities stay that it doesn't set, and so does the readiness of all threads that it doesn't touch; other threads that are out stay so; and an
+-- object with a place that was given had it before, at its number.
 pub record MoveRuns (script : Script) (t : ObjNo) (m : Move) (S : State) : Type 0 where
   pub refs : RefsMove S (moved t m S) (told m S)
   pub known : AreKnown (moved t m S)
   pub numbered : (moved t m S).serving.messages.accepted < 2147483648
   pub ranks : (u : ObjNo) → is_set m u ≡ false → priority_of (moved t m S) u ≡ priority_of S u
   pub apart : (u : ObjNo) → is_listed (touched t m) u ≡ false → is_ready script (moved t m S) u ≡ is_ready script S u
-  pub out : (u o : ObjNo) → (u.0 ≡ t.0 → ⊥) → ComesBack S u o → ComesBack (moved t m S) u o
+  pub out : (u o : ObjNo) (p : ℕ) → (u.0 ≡ t.0 → ⊥) → 0 < seeks o p (thread_of S u) → 0 < seeks o p (thread_of (moved t m S) u)
+  pub stays : (o : ObjNo) (row : ObjectRow) → object_of (moved t m S) o ≡ Some row → row.place < S.references.made
+      → IsThere (object_of S o) × (place_of (object_of S o) ≡ row.place)
 
 -- it goes through where it can be made besides
 pub record MoveGoes (script : Script) (t : ObjNo) (m : Move) (S : State) : Type 0 where

@@ -1,5 +1,5 @@
 -- What the tables keep beside the rows of threads.
-use Rattle.std.specs.Prelude.{◌≡◌, ℕ, ◌<◌, List, length, map, Option, None}
+use Rattle.std.specs.Prelude.{◌≡◌, ℕ, ◌<◌, ◌≤◌, false, List, length, map, Option, None}
 use Rattle.std.specs.List.{slice_index_or}
 use Rattle.sym_base.specs.declared.limits.TheConstants.Limits.{BOOT_OBJECTS, OBJECTS}
 use Rattle.sym_base.specs.declared.number.ObjNo.{ObjNo}
@@ -27,8 +27,11 @@ abbrev pub TiedTables : {W N : Type 0} → Tables W N → Type 0
 TiedTables tables = AreTied tables.cleanup.temporary tables.cleanup.objects tables.locks.priorities tables.procs.threads
 
 -- What the tables keep beside the rows is what the rows say: each count is the number of references, and what is kept of
--- threads is theirs. The numbers of messages so far have 31 bits, so that they are answers.
+-- threads is theirs. The numbers of messages so far have 31 bits, so that they are answers. The table of objects uses numbers again where the
+-- kernel does, and where it doesn't its words have a place for each number.
 pub record AreKept {W N : Type 0} (tables : Tables W N) : Type 0 where
   pub counts : Agrees tables.objects.counts (state_of tables)
   pub tied : TiedTables tables
   pub numbered : tables.messages.accepted < 2147483648
+  pub reuses : tables.objects.reuse ≡ tables.mode.reuse
+  pub placed : tables.objects.reuse ≡ false → OBJECTS ≤ tables.objects.notes.places

@@ -14,15 +14,16 @@ use Rattle.machine.specs.Moves.{perform, tell}
 use Rattle.machine.specs.References.{total}
 use Rattle.kernel_tables.specs.Choosing.{closing_bit}
 use Rattle.kernel_tables.specs.CoreView.{CoreView}
-use Rattle.kernel_tables.specs.Moved.{MovesGo}
+use Rattle.kernel_tables.specs.Moved.{MovesGo, making_bit}
 use Rattle.kernel_tables.specs.ReadyQueues.{AreReady}
 
 -- the moves of an action of thread t go through with either choice, and tell what an entry has room for; and one of them at most gives a
--- reference up
+-- reference up, and one makes an object
 pub record ActionGoes (script : Script) (t : ObjNo) (ms : List Move) (S : State) : Type 0 where
   pub each : (keep : Bool) → MovesGo script t ms (keeping keep S)
   pub few : (keep : Bool) → length (tell t ms (keeping keep S)) ≤ 4
   pub once : total closing_bit ms ≤ 1
+  pub makes : total making_bit ms ≤ 1
 
 -- The moves were made, with the choice that stands in the new state: that is the one after them, what they tell comes behind what was told
 -- before, and the queues have the threads that arrived along them. The choice is still open where they tell of no death.

@@ -15,6 +15,7 @@ state_of tables = record {
   mode = tables.mode;
   references = record {
     objects = tables.objects.rows;
+    made = tables.objects.made;
     handles = slots_of tables.handles;
     threads = tables.procs.threads;
     owed = tables.cleanup.duties;

@@ -1,11 +1,13 @@
 //! References that are given up, and what their threads pay for them.
-ghost use Rattle.std.specs.Prelude.{◌≡◌, ◌+◌, ◌≤◌, None, length, slice_set};
+ghost use Rattle.std.specs.Prelude.{◌≡◌, ◌+◌, ◌<◌, ◌≤◌, None, length, slice_set};
 ghost use Rattle.std.specs.List.{slice_index_or};
 ghost use Rattle.sym_base.specs.declared.number.ObjNo.{ObjNo};
 ghost use Rattle.sym_base.specs.declared.limits.TheConstants.Limits.{BOOT_OBJECTS};
 ghost use Rattle.machine.specs.Moves.{link_of, link_of_row};
 ghost use Rattle.cleanup.specs.Lists.{list_of};
-ghost use Rattle.kern_sync.specs.KernelLocks.{after_priority};
+ghost use Rattle.kern_sync.specs.KernelLocks.{after_priority, with_rows};
+ghost use Rattle.state_rows.specs.LockChanges.{after_sweep as locks_swept};
+ghost use Rattle.state_rows.specs.ServerChanges.{IsAlone, after_sweep as servers_swept};
 ghost use Rattle.readings.specs.Dying.{dead_by};
 ghost use Rattle.table_moves.specs.ObjectsView.{IsHeld};
 ghost use Rattle.table_moves.specs.ThreadRows.{with_threads};
@@ -21,6 +23,7 @@ use kern_sync::KernSync;
 use machine::{Mode, Move, Owed};
 use procs::Procs;
 use ref_words::{Closed, RefWords};
+use server_table::ServerTable;
 use sym_base::{Limits, ObjNo, ThreadNo};
 use table_moves::{
     drop_first_owed, note_lost, owe_close, owned_lose, server_of, servers_closed, servers_lose,
@@ -137,7 +140,19 @@ fn sweep_row(procs: &mut Procs, locks: &mut KernSync, object: ObjNo)
     }
 }
 
-/// The thread removes the row of a dead object.
+/// What stands under a swept number of locks, servers and sessions goes.
+fn sweep_services(locks: &mut KernSync, servers: &mut ServerTable, object: ObjNo)
+    requires locks { object.0 < length locks.old.rows.owners }
+    requires servers { object.0 < length servers.old.servers }
+    requires alone { IsAlone servers.old object }
+    ensures locks { locks.new ≡ with_rows locks.old (locks_swept locks.old.rows object) }
+    ensures servers { servers.new ≡ servers_swept servers.old object }
+{
+    locks.sweep(object);
+    servers.sweep(object);
+}
+
+/// The thread removes all rows of a dead object.
 fn pay_sweep<W: RefWords + Drop>(tables: &mut Tables<W>, thread: ThreadNo, object: ObjNo)
     requires can { CanMove thread (Move.Pay (Owed.Sweep object)) (state_of tables.old) }
     requires tied { TiedTables tables.old }
@@ -145,6 +160,7 @@ fn pay_sweep<W: RefWords + Drop>(tables: &mut Tables<W>, thread: ThreadNo, objec
 {
     tables.objects.sweep(object);
     sweep_row(&mut tables.procs, &mut tables.locks, object);
+    sweep_services(&mut tables.locks, &mut tables.servers, object);
     drop_first_owed(&mut tables.cleanup, thread);
 }
 

@@ -9,7 +9,7 @@ ghost use Rattle.machine.specs.Moves.{tell};
 ghost use Rattle.machine.specs.References.{total};
 ghost use Rattle.machine.specs.Tick.{after_tick};
 ghost use Rattle.kernel_tables.specs.Choosing.{MayChoose, closing_bit, sharing};
-ghost use Rattle.kernel_tables.specs.Moved.{MovesGo};
+ghost use Rattle.kernel_tables.specs.Moved.{MovesGo, making_bit};
 ghost use Rattle.kernel_tables.specs.Noted.{AreKept};
 ghost use Rattle.kernel_tables.specs.Performed.{ActionGoes, IsMade, IsPerformed};
 ghost use Rattle.kernel_tables.specs.ReadyQueues.{Follow, leave_along, pairs};
@@ -71,6 +71,7 @@ impl<W: RefWords + Drop> Core<W> {
         requires go { (keep : Bool) → MovesGo script.now thread self.old.decision.moves (keeping keep self.old.state) }
         requires few { (keep : Bool) → length effects.old + length (tell thread self.old.decision.moves (keeping keep self.old.state)) ≤ 4 }
         requires once { total closing_bit self.old.decision.moves ≤ 1 }
+        requires makes { total making_bit self.old.decision.moves ≤ 1 }
         requires may { MayChoose thread self.old.notes self.old.state }
         ensures decision { self.new.decision ≡ self.old.decision }
         ensures notes { self.new.notes ≡ self.old.notes }
@@ -107,6 +108,7 @@ impl<W: RefWords + Drop> Core<W> {
         self.tables.mode = Mode {
             shared: true,
             keep: true,
+            ..self.tables.mode
         };
     }
 

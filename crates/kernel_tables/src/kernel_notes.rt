@@ -1,12 +1,13 @@
 //! Notes that the core sends out and takes back.
-ghost use Rattle.std.specs.Prelude.{◌≡◌, ◌+◌, ◌<◌, false, None, [], ◌∷◌, length};
-ghost use Rattle.std.specs.List.{slice_index_or};
-ghost use Rattle.objects.specs.Rows.{is_alive};
+ghost use Rattle.std.specs.Prelude.{◌≡◌, ◌+◌, ◌<◌, false, [], ◌∷◌, length};
+ghost use Rattle.state_rows.specs.ObjectRows.{place_of};
+ghost use Rattle.objects.specs.Rows.{HasAlive, StandsAt, is_alive};
 ghost use Rattle.machine.specs.declared.moves.Move.TheVariants as Move;
 ghost use Rattle.machine.specs.References.{count_of};
 ghost use Rattle.machine.specs.Rows.{object_of, thread_of};
 ghost use Rattle.machine.specs.WellFormed.{IsAlive};
 ghost use Rattle.table_moves.specs.Notes.{IsNoteOut, next_slip, notes_back, notes_sent};
+ghost use Rattle.table_moves.specs.ObjectsView.{IsThere};
 ghost use Rattle.kernel_tables.specs.Moved.{MoveRuns, UsesNothing};
 ghost use Rattle.kernel_tables.specs.Performed.{IsPerformed};
 
@@ -20,9 +21,9 @@ use script_types::Script;
 use sym_base::{ObjNo, ThreadNo};
 
 impl<W: RefWords + Drop> Core<W> {
-    /// Sends a note out for an object that was made, and has references or isn't alive. The tables stand for the same state.
+    /// Sends a note out for an unswept object that has references or isn't alive, of its place. The tables stand for the same state.
     pub fn send_out(&mut self, object: ObjNo) -> W::Note
-        requires made { object.0 < length self.old.state.references.objects }
+        requires there { IsThere (object_of self.old.state object) }
         requires known_or_gone { count_of self.old.state object ≡ 0 → is_alive (object_of self.old.state object) ≡ false }
         requires few { count_of self.old.state object < 65536 }
         requires few_out { length self.old.notes.out < 64 }
@@ -30,8 +31,8 @@ impl<W: RefWords + Drop> Core<W> {
         ensures state { self.new.state ≡ self.old.state }
         ensures ready { self.new.ready ≡ self.old.ready }
         ensures decision { self.new.decision ≡ self.old.decision }
-        ensures notes { self.new.notes ≡ notes_sent self.old.notes object.0 }
-        ensures note { W.slip result ≡ next_slip self.old.notes object.0 }
+        ensures notes { self.new.notes ≡ notes_sent self.old.notes (place_of (object_of self.old.state object)) }
+        ensures note { W.slip result ≡ next_slip self.old.notes (place_of (object_of self.old.state object)) }
         ensures is_new { W.IsNew result }
         ensures origin_is { W.origin result ≡ self.old.notes.identity }
         ensures fits { W.Fits self.new.words result }
@@ -39,11 +40,11 @@ impl<W: RefWords + Drop> Core<W> {
         self.tables.objects.send_out(object)
     }
 
-    /// A note comes back to an object that isn't alive any more, and opens nothing. The tables stand for the same state.
+    /// A note comes back whose object isn't alive any more, and opens nothing. The tables stand for the same state.
     pub fn drop_note(&mut self, note: W::Note)
         requires settled { W.IsSettled note }
         requires fits { W.Fits self.old.words note }
-        requires gone { is_alive (slice_index_or self.old.state.references.objects (W.slip note).place None) ≡ false }
+        requires over { IsNoteOut self.old.notes (W.slip note) → HasAlive self.old.state.references.objects (W.slip note).place → ⊥ }
         ensures state { self.new.state ≡ self.old.state }
         ensures ready { self.new.ready ≡ self.old.ready }
         ensures decision { self.new.decision ≡ self.old.decision }
@@ -67,7 +68,8 @@ impl<W: RefWords + Drop> Core<W> {
     )
         requires settled { W.IsSettled note }
         requires fits { W.Fits self.old.words note }
-        requires place { IsNoteOut self.old.notes (W.slip note) → (W.slip note).place ≡ object.0 }
+        requires sought { IsNoteOut self.old.notes (W.slip note) → StandsAt self.old.state.references.objects (W.slip note).place object.0 }
+        requires place { IsNoteOut self.old.notes (W.slip note) → (W.slip note).place ≡ place_of (object_of self.old.state object) }
         requires alive { IsAlive (object_of self.old.state object) }
         requires unused { IsNoteOut self.old.notes (W.slip note) → UsesNothing (thread_of self.old.state thread) }
         requires runs { IsNoteOut self.old.notes (W.slip note) → MoveRuns script.now thread (Move.Open thread object part) self.old.state }

@@ -50,6 +50,8 @@ fn take<W: RefWords + Drop>(
     ensures rows { objects.new.rows ≡ objects.old.rows }
     ensures counts { objects.new.counts ≡ slice_set objects.old.counts mutex.0 (slice_index objects.old.counts mutex.0 + 1) }
     ensures notes { objects.new.notes ≡ objects.old.notes }
+    ensures makings { objects.new.made ≡ objects.old.made }
+    ensures mode { objects.new.reuse ≡ objects.old.reuse }
 {
     hold(cleanup, thread, mutex);
     objects.add_ref(mutex);

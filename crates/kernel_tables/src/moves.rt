@@ -3,7 +3,7 @@ ghost use Rattle.std.specs.Prelude.{◌≡◌};
 ghost use Rattle.sym_base.specs.declared.number.ObjNo.{ObjNo};
 ghost use Rattle.readings.specs.Dying.{dead_by};
 ghost use Rattle.kernel_tables.specs.Choosing.{MayClose, closing_bit};
-ghost use Rattle.kernel_tables.specs.Moved.{CanMake, CanGain, CanAdvance, CanMove, IsMoved, IsOther, chosen_state};
+ghost use Rattle.kernel_tables.specs.Moved.{CanMake, CanGain, CanAdvance, CanMove, HasPlaceFor, IsMoved, IsOther, chosen_state, making_bit};
 ghost use Rattle.kernel_tables.specs.Noted.{AreKept, TiedTables};
 ghost use Rattle.kernel_tables.specs.StateOf.{state_of};
 
@@ -28,6 +28,7 @@ use table_moves::{
 /// Makes an object, whose first reference is the holder's.
 fn make<W: RefWords + Drop>(tables: &mut Tables<W>, kind: Kind, name: Name, holder: Holder)
     requires can { CanMake kind name holder (state_of tables.old) }
+    requires place { HasPlaceFor 1 tables.old }
     requires kept { AreKept tables.old }
     ensures { (t : ObjNo) → IsMoved t (Move.Make kind name holder) tables.old tables.new }
 {
@@ -103,9 +104,19 @@ fn set_priority<W: RefWords + Drop>(tables: &mut Tables<W>, thread: ThreadNo, pr
     tables.locks.set_priority(thread, priority);
 }
 
+/// The place of an object that is found is noted in the thread's row.
+fn find<W: RefWords + Drop>(tables: &mut Tables<W>, thread: ThreadNo, object: ObjNo)
+    requires { TiedTables tables.old }
+    ensures { (t : ObjNo) → IsMoved t (Move.Find thread object) tables.old tables.new }
+{
+    let place = tables.objects.place(object);
+    threads_find(&mut tables.procs, thread, object, place);
+}
+
 /// One move by which no reference is given up, in an action of a thread.
 fn make_other<W: RefWords + Drop>(tables: &mut Tables<W>, thread: ThreadNo, change: &Move)
     requires can { CanMove thread change.now (state_of tables.old) }
+    requires place { HasPlaceFor (making_bit change.now) tables.old }
     requires kept { AreKept tables.old }
     requires other { IsOther change.now }
     ensures { IsMoved thread change.now tables.old tables.new }
@@ -114,7 +125,7 @@ fn make_other<W: RefWords + Drop>(tables: &mut Tables<W>, thread: ThreadNo, chan
         Move::Make(kind, name, holder) => make(tables, kind, name, holder),
         Move::Gain(holder, object) => gain(tables, holder, object),
         Move::Lose(_, _) | Move::Pay(_) => unreachable!(),
-        Move::Find(other, object) => threads_find(&mut tables.procs, other, object),
+        Move::Find(other, object) => find(tables, other, object),
         Move::Open(other, object, part) => open_found(tables, other, object, part),
         Move::Miss(other, _) => threads_miss(&mut tables.procs, other),
         Move::GoOn(other, part) => threads_go_on(&mut tables.procs, other, part),
@@ -153,6 +164,7 @@ pub fn make_move<W: RefWords + Drop>(
     change: &Move,
 ) -> Option<ObjNo>
     requires can { CanMove thread change.now (state_of tables.old) }
+    requires place { HasPlaceFor (making_bit change.now) tables.old }
     requires kept { AreKept tables.old }
     requires may { closing_bit change.now ≡ 1 → MayClose tables.old.objects.notes (state_of tables.old) }
     ensures moved { IsMoved thread change.now tables.old tables.new }

@@ -1,6 +1,8 @@
 //! A move by which a note comes back.
 ghost use Rattle.std.specs.Prelude.{◌≡◌, ◌+◌, length};
 ghost use Rattle.entry_log.specs.declared.effect.Holder.TheVariants as holder;
+ghost use Rattle.state_rows.specs.ObjectRows.{place_of};
+ghost use Rattle.objects.specs.Rows.{StandsAt};
 ghost use Rattle.machine.specs.declared.moves.Move.TheVariants as Move;
 ghost use Rattle.machine.specs.Rows.{object_of, thread_of};
 ghost use Rattle.machine.specs.WellFormed.{IsAlive};
@@ -26,7 +28,8 @@ pub fn open_noted<W: RefWords + Drop>(
 )
     requires settled { W.IsSettled note }
     requires fits { W.Fits tables.old.objects.words note }
-    requires place { IsNoteOut tables.old.objects.notes (W.slip note) → (W.slip note).place ≡ object.0 }
+    requires sought { IsNoteOut tables.old.objects.notes (W.slip note) → StandsAt tables.old.objects.rows (W.slip note).place object.0 }
+    requires place { IsNoteOut tables.old.objects.notes (W.slip note) → (W.slip note).place ≡ place_of (object_of (state_of tables.old) object) }
     requires alive { IsAlive (object_of (state_of tables.old) object) }
     requires unused { IsNoteOut tables.old.objects.notes (W.slip note) → UsesNothing (thread_of (state_of tables.old) thread) }
     requires kept { AreKept tables.old }

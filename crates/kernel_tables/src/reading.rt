@@ -95,11 +95,11 @@ impl<W: RefWords + Drop> Reads for Tables<W> {
     }
 
     fn next_object(&self) -> ObjNo {
-        ObjNo(self.objects.len() as u16)
+        ObjNo(self.objects.next() as u16)
     }
 
     fn no_number_left(&self) -> bool {
-        self.objects.len() == Limits::OBJECTS
+        self.objects.next() == Limits::OBJECTS
     }
 
     fn signal_count(&self, thread: ThreadNo) -> u64 {

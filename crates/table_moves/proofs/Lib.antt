@@ -2,6 +2,7 @@ mod Counted
 pub mod DyingRows
 mod Filling
 pub mod GoneLogons
+mod NotesKept
 pub mod Noting
 pub mod Owned
 pub mod RowsOfThreads

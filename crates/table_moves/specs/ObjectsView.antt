@@ -1,15 +1,17 @@
 -- What a contract sees of the table of objects.
-use Rattle.std.specs.Prelude.{ℕ, ◌<◌, List, Option, None, IsTrue, slice_index}
+use Rattle.std.specs.Prelude.{ℕ, ◌<◌, Bool, List, Option, None, IsTrue, slice_index}
 use Rattle.std.specs.List.{slice_index_or}
 use Rattle.sym_base.specs.declared.number.ObjNo.{ObjNo}
 use Rattle.state_rows.specs.declared.object.ObjectRow.{ObjectRow}
 use Rattle.objects.specs.Rows.{is_there}
 use Rattle.table_moves.specs.Notes.{Notes}
 
--- the row of each object that was made, None once it is swept; the words that count the references; and of these words the counts by
--- number, and the notes
+-- the row of each number, None where no unswept object has it; how many objects were made; whether numbers are used again; the words that count
+-- the references; the counts by number; and of these words the notes
 pub record ObjectsView (W : Type 0) : Type 0 where
   pub rows : List (Option ObjectRow)
+  pub made : ℕ
+  pub reuse : Bool
   pub words : W
   pub counts : List ℕ
   pub notes : Notes

@@ -1,8 +1,12 @@
 -- The rows of threads in the table of threads and processes.
-use Rattle.std.specs.Prelude.{List, Option}
+use Rattle.std.specs.Prelude.{ℕ, List, Option}
 use Rattle.state_rows.specs.declared.thread.ThreadRow.{ThreadRow}
 use Rattle.procs.specs.ProcsRows.{ProcsRows}
 
 -- the table of threads and processes with these rows of threads
 abbrev pub with_threads : ProcsRows → List (Option ThreadRow) → ProcsRows
 with_threads rows threads = record rows { threads = threads }
+
+-- a thread's row with the place of what its find found
+abbrev pub with_sought : ℕ → ThreadRow → ThreadRow
+with_sought place row = record row { sought = place }

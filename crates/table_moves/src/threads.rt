@@ -4,7 +4,7 @@ ghost use Rattle.machine.specs.Moves.{with_use, unlinked, with_found, with_opene
 ghost use Rattle.machine.specs.Memory.{filled, with_memory};
 ghost use Rattle.machine.specs.Room.{MayAdvance};
 ghost use Rattle.machine.specs.Rows.{with_row};
-ghost use Rattle.table_moves.specs.ThreadRows.{with_threads};
+ghost use Rattle.table_moves.specs.ThreadRows.{with_sought, with_threads};
 
 use entry_log::{Holder, Part};
 use procs::Procs;
@@ -47,11 +47,21 @@ pub fn threads_closed(procs: &mut Procs, last: bool, object: ObjNo)
     }
 }
 
-/// A thread found an object, and comes back next.
-pub fn threads_find(procs: &mut Procs, thread: ThreadNo, object: ObjNo)
-    ensures { procs.new ≡ with_threads procs.old (with_row procs.old.threads thread (with_found object)) }
+/// A thread's find found an object of this place.
+fn threads_seek(procs: &mut Procs, thread: ThreadNo, place: u64)
+    ensures { procs.new ≡ with_threads procs.old (with_row procs.old.threads thread (with_sought place)) }
+{
+    if procs.is_thread(thread) {
+        procs.set_sought(thread, place);
+    }
+}
+
+/// A thread found an object of a place, and comes back next.
+pub fn threads_find(procs: &mut Procs, thread: ThreadNo, object: ObjNo, place: u64)
+    ensures { procs.new ≡ with_threads procs.old (with_row procs.old.threads thread (with_found object place)) }
 {
     threads_keep(procs, thread, u32::from(object.0));
+    threads_seek(procs, thread, place);
     threads_go_on(procs, thread, Part::Return);
 }
 

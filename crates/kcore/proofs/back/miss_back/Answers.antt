@@ -1,17 +1,21 @@
-use Rattle.std.proofs.Common.{◌∙◌, subst, sym}
+use Rattle.std.proofs.Common.{◌∙◌, refl, subst, sym}
 use Rattle.machine.specs.declared.state.State.{State}
 use Rattle.table_moves.specs.Notes.{Notes, notes_back}
 use Rattle.kernel_tables.specs.Choosing.{MayChoose}
 use Rattle.kernel_tables.specs.Performed.{ActionGoes}
 use Rattle.kcore.proofs.ActionsDone.{was-made}
-use Rattle.kcore.proofs.Backs.{gone_there, made-like, miss-goes}
+use Rattle.machine.specs.Out.{found_object}
+use Rattle.kcore.proofs.Backs.{made-like, miss-goes, none_held, stands-at}
 use Rattle.kcore.proofs.back.miss_back.Goals as goal
 
-pub drop_note-requires-clause-gone : goal.drop_note-requires-clause-gone
-drop_note-requires-clause-gone g c =
-    gone_there c.args.core.now.state.references.objects
-    (g.W.RefWords.slip c.args.note).place c.args.object.0 c.requires.runs.rows.references.sized.objects_few
-    c.requires.object c.requires.gone
+pub drop_note-requires-clause-over : goal.drop_note-requires-clause-over
+drop_note-requires-clause-over g c = λ noted.
+    let S = c.args.core.now.state in
+    let p = (g.W.RefWords.slip c.args.note).place in
+    let h = c.requires.may.out noted in
+    let object = found_object h.back.row in
+    none_held S.references.objects p object (stands-at c.args.script.now S c.args.thread p object c.requires.runs.rows h refl)
+    (c.requires.shut h.back.row h.back.is)
 
 pub make-requires-clause-goes : goal.make-requires-clause-goes
 make-requires-clause-goes g c =
@@ -21,9 +25,9 @@ make-requires-clause-goes g c =
     let t = c.args.thread in
     let p = (g.W.RefWords.slip c.args.note).place in
     let noted = c.drop_note.ensures.was_out in
-    let gone = gone_there old.state.references.objects p c.args.object.0 c.requires.runs.rows.references.sized.objects_few c.requires.object c.requires.gone in
-    let goes = miss-goes script old.state t (record { 0 = p }) mid.decision c.requires.runs.shaped c.requires.runs.rows
-    (c.requires.may.out noted) gone (c.drop_note.ensures.decision ∙ c.requires.decided noted) in
+    let h = c.requires.may.out noted in
+    let goes = miss-goes script old.state t p (found_object h.back.row) mid.decision c.requires.runs.shaped c.requires.runs.rows
+    h refl (c.requires.shut h.back.row h.back.is) (c.drop_note.ensures.decision ∙ c.requires.decided noted) in
     subst (λ (S : State). ActionGoes script t mid.decision.moves S) (sym c.drop_note.ensures.state) goes
 
 pub make-requires-clause-may : goal.make-requires-clause-may

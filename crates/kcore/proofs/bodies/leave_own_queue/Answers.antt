@@ -2,7 +2,7 @@ use Rattle.std.proofs.Common.{◌∙◌, ap, arith}
 use Rattle.machine.specs.declared.decision.Decision.{Decision}
 use Rattle.machine.specs.Bodies.{leave_queue}
 use Rattle.kernel_tables.specs.StateOf.{state_of}
-use Rattle.kcore.proofs.RunningOps.{leave_calm, may_after}
+use Rattle.kcore.proofs.RunningOps.{leave_calm, leave_unmaking, may_after}
 use Rattle.kcore.proofs.bodies.leave_own_queue.Goals as goal
 
 pub perform-requires-clause-go : goal.perform-requires-clause-go
@@ -13,6 +13,11 @@ perform-requires-clause-few g c = rw c.leave_queue.ensures.moves (rw (← c.core
 
 pub perform-requires-clause-once : goal.perform-requires-clause-once
 perform-requires-clause-once g c = let none = leave_calm (state_of c.core.inside.tables) c.args.body in rw c.leave_queue.ensures.moves (omega arith)
+
+pub perform-requires-clause-makes : goal.perform-requires-clause-makes
+perform-requires-clause-makes g c =
+    let none = leave_unmaking (state_of c.core.inside.tables) c.args.body in
+    rw c.leave_queue.ensures.moves (omega arith)
 
 pub perform-requires-clause-may : goal.perform-requires-clause-may
 perform-requires-clause-may g c = rw (← c.core.view_is) at c.requires.may
@@ -34,4 +39,5 @@ returns-clause-may g c =
     rw c.perform.ensures.notes (may_after c.args.script.now c.args.thread
     (leave_queue (state_of c.core.inside.tables) c.args.body) notes S c.perform.new.self.state c.core.inside.ready
     c.perform.new.self.ready c.args.effects.now c.perform.new.effects (rw (← c.core.view_is) at c.requires.go)
-    (leave_calm (state_of c.core.inside.tables) c.args.body) done (rw (← c.core.view_is) at c.requires.may))
+    (leave_calm (state_of c.core.inside.tables) c.args.body)
+    (leave_unmaking (state_of c.core.inside.tables) c.args.body) done (rw (← c.core.view_is) at c.requires.may))

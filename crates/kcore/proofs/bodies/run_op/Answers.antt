@@ -2,7 +2,7 @@ use Rattle.std.proofs.Common.{◌∙◌, ap, arith}
 use Rattle.machine.specs.declared.decision.Decision.{Decision}
 use Rattle.machine.specs.Bodies.{op_moves}
 use Rattle.kernel_tables.specs.StateOf.{state_of}
-use Rattle.kcore.proofs.RunningOps.{op_calm, may_after}
+use Rattle.kcore.proofs.RunningOps.{op_calm, op_unmaking, may_after}
 use Rattle.kcore.proofs.bodies.run_op.Goals as goal
 
 pub perform-requires-clause-go : goal.perform-requires-clause-go
@@ -14,6 +14,11 @@ perform-requires-clause-few g c = rw c.op_moves.ensures.moves (rw (← c.core.vi
 pub perform-requires-clause-once : goal.perform-requires-clause-once
 perform-requires-clause-once g c =
     let none = op_calm c.args.script.now (state_of c.core.inside.tables) c.args.op.now in
+    rw c.op_moves.ensures.moves (omega arith)
+
+pub perform-requires-clause-makes : goal.perform-requires-clause-makes
+perform-requires-clause-makes g c =
+    let none = op_unmaking c.args.script.now (state_of c.core.inside.tables) c.args.op.now in
     rw c.op_moves.ensures.moves (omega arith)
 
 pub perform-requires-clause-may : goal.perform-requires-clause-may
@@ -37,5 +42,6 @@ returns-clause-may g c =
     (op_moves c.args.script.now (state_of c.core.inside.tables) c.args.op.now) notes S c.perform.new.self.state
     c.core.inside.ready c.perform.new.self.ready c.args.effects.now c.perform.new.effects
     (rw (← c.core.view_is) at c.requires.go)
-    (op_calm c.args.script.now (state_of c.core.inside.tables) c.args.op.now) done
+    (op_calm c.args.script.now (state_of c.core.inside.tables) c.args.op.now)
+    (op_unmaking c.args.script.now (state_of c.core.inside.tables) c.args.op.now) done
     (rw (← c.core.view_is) at c.requires.may))

@@ -3,6 +3,7 @@ use Rattle.std.specs.Prelude.{slice_index}
 use Rattle.script_types.proofs.ShapeLaws.{formed_is_shaped}
 use Rattle.state_rows.specs.declared.messages.MessageRows.{MessageRows}
 use Rattle.machine.specs.declared.boot.Born.{Born}
+use Rattle.machine.specs.declared.mode.Mode.{Mode}
 use Rattle.machine.specs.declared.state.State.{State}
 use Rattle.machine.specs.Boot.{boot, born}
 use Rattle.machine.specs.Choice.{priority_of_row}
@@ -13,6 +14,7 @@ use Rattle.machine_laws.proofs.AtBoot.Born.{each_born}
 use Rattle.machine_laws.proofs.AtBoot.BootRows.{rows-boot}
 use Rattle.move_laws.proofs.Numbers.CountSmall.{count_small}
 use Rattle.kcore.specs.BootTable.{AreLinked, AreNew, AreTables, FirstStand, born_rows}
+use Rattle.table_moves.specs.Notes.{Notes}
 use Rattle.kernel_tables.specs.Counts.{Agrees}
 use Rattle.kcore.proofs.BootCounts.{boot_count, linked_at_boot}
 use Rattle.kcore.proofs.BootGroups.{state_is_boot}
@@ -24,6 +26,13 @@ pub counted-requires-clause-few : goal.counted-requires-clause-few
 counted-requires-clause-few g c =
     let few = born_few c.args.script.now (formed_is_shaped c.args.script.now c.requires.valid) in
     let e = ap length c.requires.born in
+    omega arith
+
+pub counted-requires-clause-places : goal.counted-requires-clause-places
+counted-requires-clause-places g c =
+    let few = born_few c.args.script.now (formed_is_shaped c.args.script.now c.requires.valid) in
+    let e = ap length c.requires.born in
+    let places = c.requires.places in
     omega arith
 
 pub counted-requires-clause-small : goal.counted-requires-clause-small
@@ -56,6 +65,11 @@ returns-clause-state g c =
     (λ (bs : List Born). AreTables script bs objects tables) c.requires.born c.in_ok-tables.ensures in
     let stand = subst (λ (bs : List Born). FirstStand bs objects.rows objects.counts (length bs)) c.requires.born c.in_ok-objects.ensures.stand in
     state_is_boot script objects tables made (all_stand (born script) objects.rows objects.counts stand)
+    (c.in_ok-objects.ensures.made ∙ ap length c.requires.born)
+
+pub returns-clause-made : goal.returns-clause-made
+returns-clause-made g c =
+    ap (λ t. t.made) c.in_ok-tables.ensures.objects ∙ (c.in_ok-objects.ensures.made ∙ ap length c.requires.born)
 
 pub returns-clause-kept : goal.returns-clause-kept
 returns-clause-kept g c =
@@ -82,6 +96,13 @@ returns-clause-kept g c =
         listed = ap (λ l. l.objects) made.empty.cleanup;
         ranked = made.threads.ranked;
       };
+      reuses =
+          ap (λ t. t.reuse) made.objects
+          ∙ (c.in_ok-objects.ensures.reuse ∙ (c.uses_again.ensures ∙ sym (ap (λ (m : Mode). m.reuse) made.empty.mode)));
+      placed =
+          let notes = ap (λ (n : Notes). n.places) (ap (λ t. t.notes) made.objects ∙ c.in_ok-objects.ensures.notes) in
+          let again = ap (λ t. t.reuse) made.objects ∙ (c.in_ok-objects.ensures.reuse ∙ c.uses_again.ensures) in
+          λ first. let most = c.requires.numbers (sym again ∙ first) in omega arith;
       numbered = let accepted = ap (λ (r : MessageRows). r.accepted) made.empty.messages in omega arith;
     }
 

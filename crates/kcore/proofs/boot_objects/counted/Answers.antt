@@ -1,13 +1,16 @@
-use Rattle.std.proofs.Common.{◌≡◌, ℕ, ◌∙◌, sym, ap, subst, arith, false}
+use Rattle.std.proofs.Common.{◌≡◌, ℕ, ◌+◌, ◌∙◌, sym, ap, subst, arith, length, false}
 use Rattle.std.specs.Prelude.{slice_index, slice_set}
 use Rattle.std.proofs.lemmas.List.{get_or_read}
 use Rattle.state_rows.specs.ObjectRows.{is_taken}
-use Rattle.kcore.proofs.BootTables.{read_at, stand_long, none_stand, one_more}
+use Rattle.table_moves.specs.Notes.{Notes}
+use Rattle.kcore.proofs.BootTables.{read_at, stand_long, stand_next, none_stand, one_more}
 use Rattle.kcore.proofs.boot_objects.counted.Goals as goal
 
 pub loop-number-init : goal.loop-number-init
 loop-number-init g c = record {
   stand = none_stand c.args.all.now _ _ c.in_ok-objects.ensures.rows c.in_ok-objects.ensures.counts;
+  made = c.in_ok-objects.ensures.made;
+  reuse = c.in_ok-objects.ensures.mode;
   notes = c.in_ok-objects.ensures.notes;
 }
 
@@ -50,6 +53,24 @@ make_counted-requires-clause-small g c =
     let is = c.in_ok-counts.ensures.counts (record { 0 = n }) in
     omega arith
 
+pub make_counted-requires-clause-next : goal.make_counted-requires-clause-next
+make_counted-requires-clause-next g c =
+    let l = c.loop-number in
+    stand_next c.args.all.now l.objects.rows l.objects.counts l.number l.objects.reuse l.invariant.stand
+
+pub make_counted-requires-clause-made : goal.make_counted-requires-clause-made
+make_counted-requires-clause-made g c =
+    let l = c.loop-number in
+    l.invariant.made ∙ sym (stand_long c.args.all.now l.objects.rows l.objects.counts l.number l.invariant.stand l.auto.number-end)
+
+pub make_counted-requires-clause-place : goal.make_counted-requires-clause-place
+make_counted-requires-clause-place g c =
+    let l = c.loop-number in
+    let made = l.invariant.made in
+    let places = ap (λ (n : Notes). n.places) l.invariant.notes in
+    let most = c.requires.places in
+    let lt = c.loop-number-test.true in omega arith
+
 pub make_counted-requires-clause-room : goal.make_counted-requires-clause-room
 make_counted-requires-clause-room g c =
     let long = stand_long c.args.all.now c.loop-number.objects.rows c.loop-number.objects.counts
@@ -75,5 +96,7 @@ loop-number-preserved g c =
           (read ∙ c.in_ok-counts.ensures.counts (record { 0 = n }))
           (c.make_counted.ensures.counts ∙ ap (λ (k : ℕ). slice_set l.objects.counts k count) long)
           (ap (slice_index new.counts) (sym long) ∙ c.make_counted.ensures.last));
+      made = c.make_counted.ensures.made ∙ ap (λ (k : ℕ). k + 1) l.invariant.made;
+      reuse = c.make_counted.ensures.reuse ∙ l.invariant.reuse;
       notes = c.make_counted.ensures.notes ∙ l.invariant.notes;
     }

@@ -10,5 +10,7 @@ invariant-loop-held g l = record {
   there : IsTrue (is_there (slice_index_or l.objects.rows l.object.0 None));
   counts : l.objects.counts ≡ slice_set l.initial.objects.counts l.object.0 l._held;
   last : slice_index l.objects.counts l.object.0 ≡ l._held;
+  made : l.objects.made ≡ l.initial.objects.made;
+  reuse : l.objects.reuse ≡ l.initial.objects.reuse;
   notes : l.objects.notes ≡ l.initial.objects.notes;
 }

@@ -24,6 +24,6 @@ pub loop-number-preserved : goal.loop-number-preserved
 loop-number-preserved g c =
     let S = state_of c.args.tables.now in
     let n = c.loop-number.number in
-    let inside : n < length S.references.objects = omega (arith, c.loop-number-test.true, c.len-number-end.ensures.made) in
+    let inside : n < length S.references.objects = omega (arith, c.loop-number-test.true, c.len-number-end.ensures.numbers) in
     let swept = slice_get-get_or S.references.objects n None inside ∙ ap Some (sym c.in_default.ensures) in
     sym (rows_from_swept S n swept) ∙ c.loop-number.invariant

@@ -13,6 +13,7 @@ returns g c =
           rw (c.owe_close.ensures, c.threads_closed.ensures)
           (tied_closed old.cleanup old.locks.priorities old.procs.threads _ c.args.object c.requires.tied);
       notes = c.close_ref.ensures.notes;
+      reuse = c.close_ref.ensures.mode;
       only = search rules;
       out = search rules;
     }

@@ -29,7 +29,7 @@ returns-clause-moved g c =
     let known = c.requires.can.0.known in
     let agree = c.requires.kept.counts o in
     let dying = last_chosen old.objects.counts old.objects.notes
-    (state_of old) o c.close-last.result c.close-last.new.tables.mode c.requires.may agree closed.only closed.out
+    (state_of old) o c.requires.can.0.there c.close-last.result c.close-last.new.tables.mode c.requires.may agree closed.only closed.out
     closed.mode in
     record {
       state =
@@ -51,6 +51,7 @@ returns-clause-moved g c =
       tied = closed.tied;
       mode = closed.mode ∙ ap (λ (b : Bool). mode_after (dead_of b o) old.mode) dying;
       notes = closed.notes;
+      reuse = closed.reuse;
     }
 
 pub returns-clause-dead : goal.returns-clause-dead
@@ -60,5 +61,5 @@ returns-clause-dead g c =
     let closed = c.close-last.ensures in
     c.dead_of.ensures
     ∙ ap (λ (b : Bool). dead_of b o) (last_chosen old.objects.counts old.objects.notes
-    (state_of old) o c.close-last.result c.close-last.new.tables.mode c.requires.may
+    (state_of old) o c.requires.can.0.there c.close-last.result c.close-last.new.tables.mode c.requires.may
     (c.requires.kept.counts o) closed.only closed.out closed.mode)

@@ -7,5 +7,6 @@ returns g c = λ t. record {
   counts = λ o. refl;
   mode = refl;
   notes = refl;
+  reuse = refl;
   tied = rw c.write_piece.ensures.copied c.requires.tied;
 }

@@ -13,6 +13,7 @@ returns g c =
       counts = death_counts old.objects.counts change;
       mode = refl;
       notes = refl;
+      reuse = refl;
       tied =
           rw (c.move_row.ensures, c.owe_burial.ensures)
           (tied_row old.cleanup old.locks.priorities old.procs.threads (death_thread change) (death_row change)

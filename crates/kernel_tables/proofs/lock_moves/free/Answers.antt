@@ -30,6 +30,7 @@ returns-in-None g c =
       counts = λ p. refl;
       mode = refl;
       notes = refl;
+      reuse = refl;
       tied = rw (c.give.ensures, c.free.ensures.after) c.requires.kept.tied;
     })
 
@@ -62,9 +63,10 @@ returns-in-Some g c =
     let can = rw is at c.requires.can.3 in
     let known = (held_by_count old o c.requires.kept can.1.referred).known in
     rw is (λ t. record {
-      state = rw (c.take.ensures.lists, c.take.ensures.rows, c.give-in-Some.ensures, c.free.ensures.after, best) refl;
+      state = rw (c.take.ensures.lists, c.take.ensures.rows, c.take.ensures.makings, c.give-in-Some.ensures, c.free.ensures.after, best) refl;
       counts = rw c.take.ensures.counts (counts-more old.objects.counts o (Own w) known);
       mode = refl;
       notes = c.take.ensures.notes;
+      reuse = c.take.ensures.mode;
       tied = rw (c.take.ensures.lists, c.give-in-Some.ensures, c.free.ensures.after) c.requires.kept.tied;
     })

@@ -28,5 +28,6 @@ returns-in-Signal g c =
       counts = λ p. refl;
       mode = refl;
       notes = refl;
+      reuse = refl;
       tied = rw c.sem_signal.ensures.after c.requires.kept.tied;
     })

@@ -29,6 +29,7 @@ returns-in-Freed g c =
       counts = λ p. refl;
       mode = refl;
       notes = refl;
+      reuse = refl;
       tied = rw (c.give.ensures, c.unlock.ensures.after) c.requires.kept.tied;
     })
 
@@ -68,9 +69,10 @@ returns-in-Passed g c =
     let can = rw is at c.requires.can.2 in
     let known = (held_by_count old o c.requires.kept can.1.referred).known in
     rw is (λ t. record {
-      state = rw (c.take.ensures.lists, c.take.ensures.rows, c.give-in-Passed.ensures, c.unlock.ensures.after, c.in-Passed.is) refl;
+      state = rw (c.take.ensures.lists, c.take.ensures.rows, c.take.ensures.makings, c.give-in-Passed.ensures, c.unlock.ensures.after, c.in-Passed.is) refl;
       counts = rw c.take.ensures.counts (counts-more old.objects.counts o (Own w) known);
       mode = refl;
       notes = c.take.ensures.notes;
+      reuse = c.take.ensures.mode;
       tied = rw (c.take.ensures.lists, c.give-in-Passed.ensures, c.unlock.ensures.after) c.requires.kept.tied;
     })

@@ -10,6 +10,7 @@ returns g c =
       counts = λ o. refl;
       mode = refl;
       notes = refl;
+      reuse = refl;
       tied =
           rw (c.threads_advance.ensures, c.owe_use.ensures, c.note_end.ensures)
           (tied_ended old.cleanup old.locks.priorities old.procs.threads c.args.thread c.requires.tied);

@@ -18,6 +18,7 @@ returns g c =
             c.gain_slot.ensures,
             c.threads_gain.ensures,
             c.add_ref.ensures.rows,
+            c.add_ref.ensures.makings,
             c.note_gain.ensures,
             duties_gained old.cleanup c.args.holder c.args.object,
             mutexes_gained old.cleanup c.args.holder c.args.object,
@@ -27,6 +28,7 @@ returns g c =
       counts = rw c.add_ref.ensures.counts (counts-more old.objects.counts c.args.object c.args.holder (rw (c.requires.kept.counts c.args.object) known));
       mode = refl;
       notes = c.add_ref.ensures.notes;
+      reuse = c.add_ref.ensures.mode;
       tied =
           rw (c.threads_gain.ensures, c.note_gain.ensures)
           (tied_gained old.cleanup old.locks.priorities

@@ -1,5 +1,5 @@
 use Rattle.std.proofs.Common.{refl}
-use Rattle.machine.specs.Moves.{with_found, with_kept, with_missed, with_message, with_part, with_register, with_waiting}
+use Rattle.machine.specs.Moves.{with_kept, with_missed, with_message, with_part, with_register, with_waiting}
 use Rattle.state_rows.specs.declared.thread.Waiting.TheVariants as waiting
 use Rattle.kernel_tables.proofs.Tying.{tied_row}
 use Rattle.kernel_tables.proofs.FirstCount.{nano_counts, request_counts}
@@ -18,17 +18,10 @@ pub returns-in-Advance : goal.returns-in-Advance
 returns-in-Advance g c = rw c.in-Advance.is (c.advance.ensures c.args.thread)
 
 pub returns-in-Find : goal.returns-in-Find
-returns-in-Find g c =
-    let old = c.args.tables.now in
-    rw c.in-Find.is (record {
-      state = rw c.threads_find.ensures refl;
-      counts = λ o. refl;
-      mode = refl;
-      notes = refl;
-      tied =
-          rw c.threads_find.ensures (tied_row old.cleanup old.locks.priorities old.procs.threads c.in-Find.other
-          (with_found c.in-Find.object) (λ r. refl) (λ r. refl) c.requires.kept.tied);
-    })
+returns-in-Find g c = rw c.in-Find.is (c.find.ensures c.args.thread)
+
+pub make-requires-clause-place : goal.make-requires-clause-place
+make-requires-clause-place g c = rw c.in-Make.is at c.requires.place
 
 pub open_found-requires-clause-can : goal.open_found-requires-clause-can
 open_found-requires-clause-can g c = rw c.in-Open.is at c.requires.can
@@ -44,6 +37,7 @@ returns-in-Miss g c =
       counts = λ o. refl;
       mode = refl;
       notes = refl;
+      reuse = refl;
       tied =
           rw c.threads_miss.ensures (tied_row old.cleanup old.locks.priorities old.procs.threads c.in-Miss.other with_missed
           (λ r. refl) (λ r. refl) c.requires.kept.tied);
@@ -57,6 +51,7 @@ returns-in-GoOn g c =
       counts = λ o. refl;
       mode = refl;
       notes = refl;
+      reuse = refl;
       tied =
           rw c.threads_go_on.ensures (tied_row old.cleanup old.locks.priorities old.procs.threads c.in-GoOn.other
           (with_part c.in-GoOn.part) (λ r. refl) (λ r. refl) c.requires.kept.tied);
@@ -70,6 +65,7 @@ returns-in-Write g c =
       counts = λ o. refl;
       mode = refl;
       notes = refl;
+      reuse = refl;
       tied =
           rw c.threads_write.ensures (tied_row old.cleanup old.locks.priorities old.procs.threads c.in-Write.other
           (with_register c.in-Write.register c.in-Write.value) (λ r. refl) (λ r. refl) c.requires.kept.tied);
@@ -83,6 +79,7 @@ returns-in-Wait g c =
       counts = λ o. refl;
       mode = refl;
       notes = refl;
+      reuse = refl;
       tied =
           rw c.threads_wait.ensures (tied_row old.cleanup old.locks.priorities old.procs.threads c.in-Wait.other
           (with_waiting c.in-Wait.what) (λ r. refl) (λ r. refl) c.requires.kept.tied);
@@ -96,6 +93,7 @@ returns-in-Wake g c =
       counts = λ o. refl;
       mode = refl;
       notes = refl;
+      reuse = refl;
       tied =
           rw c.threads_wait-in-Wake.ensures (tied_row old.cleanup old.locks.priorities old.procs.threads c.in-Wake.other
           (with_waiting waiting.Nothing) (λ r. refl) (λ r. refl) c.requires.kept.tied);
@@ -114,6 +112,7 @@ returns-in-Logons g c =
       counts = λ o. refl;
       mode = refl;
       notes = refl;
+      reuse = refl;
       tied = rw c.move_logon.ensures c.requires.kept.tied;
     })
 
@@ -127,6 +126,7 @@ returns-in-Fill g c =
       counts = λ o. refl;
       mode = refl;
       notes = refl;
+      reuse = refl;
       tied = rw c.fill.ensures c.requires.kept.tied;
     })
 
@@ -140,6 +140,7 @@ returns-in-Nano g c =
       counts = nano_counts c.args.tables.now.objects.counts c.in-Nano.change;
       mode = refl;
       notes = refl;
+      reuse = refl;
       tied = c.requires.kept.tied;
     })
 
@@ -150,6 +151,7 @@ returns-in-Deferred g c =
       counts = λ o. refl;
       mode = refl;
       notes = refl;
+      reuse = refl;
       tied = c.requires.kept.tied;
     })
 
@@ -160,6 +162,7 @@ returns-in-Requests g c =
       counts = request_counts c.args.tables.now.objects.counts c.in-Requests.change;
       mode = refl;
       notes = refl;
+      reuse = refl;
       tied = c.requires.kept.tied;
     })
 
@@ -171,6 +174,7 @@ returns-in-Keep g c =
       counts = λ o. refl;
       mode = refl;
       notes = refl;
+      reuse = refl;
       tied =
           rw c.threads_keep.ensures (tied_row old.cleanup old.locks.priorities old.procs.threads c.in-Keep.other
           (with_kept c.in-Keep.number) (λ r. refl) (λ r. refl) c.requires.kept.tied);
@@ -184,6 +188,7 @@ returns-in-WriteMessage g c =
       counts = λ o. refl;
       mode = refl;
       notes = refl;
+      reuse = refl;
       tied =
           rw c.threads_write_message.ensures (tied_row old.cleanup old.locks.priorities old.procs.threads
           c.in-WriteMessage.other (with_message c.in-WriteMessage.register c.in-WriteMessage.number) (λ r. refl)

@@ -14,12 +14,13 @@ returns g c =
     let old = c.args.tables.now in
     let known = c.requires.can.0.known in
     λ t. record {
-      state = rw (c.threads_open.ensures, c.add_ref.ensures.rows, c.note_gain.ensures) refl;
+      state = rw (c.threads_open.ensures, c.add_ref.ensures.rows, c.add_ref.ensures.makings, c.note_gain.ensures) refl;
       counts =
           rw c.add_ref.ensures.counts (counts-more old.objects.counts c.args.object (Temp c.args.thread)
           (rw (c.requires.kept.counts c.args.object) known));
       mode = refl;
       notes = c.add_ref.ensures.notes;
+      reuse = c.add_ref.ensures.mode;
       tied =
           rw (c.threads_open.ensures, c.note_gain.ensures)
           (tied_opened old.cleanup old.locks.priorities

@@ -11,6 +11,7 @@ returns g c =
       counts = λ o. refl;
       mode = refl;
       notes = refl;
+      reuse = refl;
       tied =
           rw (c.threads_lose.ensures, c.owe_use.ensures, c.note_end.ensures)
           (tied_lost old.cleanup old.locks.priorities old.procs.threads (Temp c.args.thread) c.requires.tied);

@@ -16,6 +16,7 @@ returns g c =
       counts = λ o. refl;
       mode = refl;
       notes = refl;
+      reuse = refl;
       tied =
           rw (c.threads_set_priority.ensures, c.set_priority.ensures)
           (tied_ranked old.cleanup old.locks.priorities old.procs.threads t there.row c.args.priority there.is inside

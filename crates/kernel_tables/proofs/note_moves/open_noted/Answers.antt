@@ -1,11 +1,10 @@
-use Rattle.std.proofs.Common.{◌≡◌, ◌∙◌, ◌<◌, ℕ, length, refl, ap, subst}
+use Rattle.std.proofs.Common.{◌≡◌, ◌∙◌, refl, ap, sym}
 use Rattle.std.specs.Prelude.{None, slice_index, slice_set, ◌+◌}
 use Rattle.std.specs.List.{slice_index_or}
 use Rattle.entry_log.specs.declared.effect.Holder.TheVariants.{Temp}
 use Rattle.ref_words.specs.declared.answer.Found.{Found}
 use Rattle.ref_words.specs.declared.answer.Found.TheVariants.{Held}
-use Rattle.machine.specs.WellFormed.{IsAlive}
-use Rattle.table_moves.specs.Notes.{counts_found}
+use Rattle.objects.specs.Calls.{counts_found}
 use Rattle.kernel_tables.specs.StateOf.{state_of}
 use Rattle.kernel_tables.proofs.FirstCount.{counts-next}
 use Rattle.kernel_tables.proofs.NotesBack.{alive_is}
@@ -22,20 +21,18 @@ pub returns-clause-moved : goal.returns-clause-moved
 returns-clause-moved g c =
     let old = c.args.tables.now in
     let o = c.args.object in
-    let p : ℕ = (g.W.RefWords.slip c.args.note).place in
     let at = c.requires.place c.take_back.ensures.was_out in
-    let alive : IsAlive (slice_index_or old.objects.rows p None) = rw at c.requires.alive in
-    let held : c.take_back.result ≡ Held = c.take_back.ensures.held.1 (alive_is (slice_index_or old.objects.rows p None) alive) in
+    let sought = c.requires.sought c.take_back.ensures.was_out in
+    let alive = alive_is (slice_index_or old.objects.rows o.0 None) c.requires.alive in
+    let held : c.take_back.result ≡ Held = (c.take_back.ensures.held o.0 sought).1 (alive, sym at) in
     let counts : c.take_back.new.self.counts ≡ slice_set old.objects.counts o.0 (slice_index old.objects.counts o.0 + 1) =
-    c.take_back.ensures.counts
-    ∙ ap (λ (f : Found). counts_found f old.objects.counts p) held
-    ∙ ap (λ (n : ℕ). slice_set old.objects.counts n (slice_index old.objects.counts n + 1)) at in
-    let within : o.0 < length old.objects.counts = subst (λ (n : ℕ). n < length old.objects.counts) at c.take_back.ensures.inside in
+    c.take_back.ensures.counts o.0 sought ∙ ap (λ (f : Found). counts_found f old.objects.counts o.0) held in
     λ t. record {
-      state = rw (c.threads_open.ensures, c.take_back.ensures.rows, c.note_gain.ensures) refl;
-      counts = rw counts (counts-next old.objects.counts o (Temp c.args.thread) within);
+      state = rw (c.threads_open.ensures, c.take_back.ensures.rows, c.take_back.ensures.makings, c.note_gain.ensures) refl;
+      counts = rw counts (counts-next old.objects.counts o (Temp c.args.thread) (c.take_back.ensures.inside o.0 sought held));
       mode = refl;
       notes = c.take_back.ensures.notes;
+      reuse = c.take_back.ensures.mode;
       tied =
           rw (c.threads_open.ensures, c.note_gain.ensures)
           (tied_opened old.cleanup old.locks.priorities (state_of old) c.args.thread o c.args.part

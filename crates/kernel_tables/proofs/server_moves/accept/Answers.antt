@@ -34,12 +34,22 @@ returns g c =
     let fits : FitsSigned w32 c.args.row.function = search rules in
     let function = to_z-of_z fits in
     λ t. record {
-      state = rw (c.accept.ensures.accepted, c.add_ref-2.ensures.rows, c.add_ref.ensures.rows, function, ← rows) refl;
+      state =
+          rw (
+            c.accept.ensures.accepted,
+            c.add_ref-2.ensures.rows,
+            c.add_ref-2.ensures.makings,
+            c.add_ref.ensures.rows,
+            c.add_ref.ensures.makings,
+            function,
+            ← rows,
+          ) refl;
       counts =
           rw (c.add_ref-2.ensures.counts, c.add_ref.ensures.counts)
           (counts-two old.objects.counts c.args.row.session c.args.row.client (next_number old.messages)
           (Message (next_number old.messages)) session.known client.known);
       mode = refl;
       notes = c.add_ref-2.ensures.notes ∙ c.add_ref.ensures.notes;
+      reuse = c.add_ref-2.ensures.mode ∙ c.add_ref.ensures.mode;
       tied = c.requires.kept.tied;
     }

@@ -13,5 +13,6 @@ returns g c =
       counts = λ o. refl;
       mode = refl;
       notes = refl;
+      reuse = refl;
       tied = rw c.owe_message.ensures c.requires.tied;
     }

@@ -14,9 +14,10 @@ returns g c =
     let old = c.args.tables.now in
     let held = held_by_count old c.args.server c.requires.kept c.requires.can.4 in
     λ t. record {
-      state = rw (c.add_session.ensures, c.add_ref.ensures.rows) refl;
+      state = rw (c.add_session.ensures, c.add_ref.ensures.rows, c.add_ref.ensures.makings) refl;
       counts = rw c.add_ref.ensures.counts (counts-more old.objects.counts c.args.server (Link c.args.session) held.known);
       mode = refl;
       notes = c.add_ref.ensures.notes;
+      reuse = c.add_ref.ensures.mode;
       tied = c.requires.kept.tied;
     }

@@ -15,6 +15,7 @@ returns-in-Take g c =
       counts = λ o. refl;
       mode = refl;
       notes = refl;
+      reuse = refl;
       tied = c.requires.kept.tied;
     })
 

@@ -8,6 +8,7 @@ returns-in-Start g c =
       counts = λ o. refl;
       mode = refl;
       notes = refl;
+      reuse = refl;
       tied = c.requires.kept.tied;
     })
 
@@ -21,6 +22,7 @@ returns-in-Close g c =
       counts = λ o. refl;
       mode = refl;
       notes = refl;
+      reuse = refl;
       tied = c.requires.kept.tied;
     })
 
@@ -31,6 +33,7 @@ returns-in-CloseAll g c =
       counts = λ o. refl;
       mode = refl;
       notes = refl;
+      reuse = refl;
       tied = c.requires.kept.tied;
     })
 
@@ -41,8 +44,9 @@ returns-in-SetOpen g c =
       counts = λ o. refl;
       mode = refl;
       notes = refl;
+      reuse = refl;
       tied = c.requires.kept.tied;
     })
 
 pub returns-in-End : goal.returns-in-End
-returns-in-End g c = rw c.in-End.is (λ t. record { state = refl; counts = λ o. refl; mode = refl; notes = refl; tied = c.requires.kept.tied })
+returns-in-End g c = rw c.in-End.is (λ t. record { state = refl; counts = λ o. refl; mode = refl; notes = refl; reuse = refl; tied = c.requires.kept.tied })

@@ -6,7 +6,7 @@ use Rattle.machine_safe.proofs.ReadyHolders.{holders_ready}
 use Rattle.table_moves.specs.Notes.{Notes}
 use Rattle.kcore.specs.Outgoing.{AreNotes}
 use Rattle.kcore.proofs.Goes.{runs}
-use Rattle.kcore.proofs.KernelGoes.{back-can, back-notes, back-out, back-returns, out-begins, out-follows, out-kernel, out-mode, out-notes}
+use Rattle.kcore.proofs.KernelGoes.{back-can, back-notes, back-out, back-returns, out-begins, out-follows, out-kernel, out-mode, out-notes, place-left}
 use Rattle.kcore.proofs.Lighter.{lighter-more}
 use Rattle.kcore.proofs.ModesSuit.{split-suits}
 use Rattle.kcore.proofs.OutKernel.{may-come, one-noted}
@@ -29,9 +29,10 @@ go_back-requires-clause-may g c =
     let mid = c.share.new.self in
     let its = rw (← c.self.view_is) at c.requires.its in
     let s = g.W.RefWords.slip c.args.note in
-    may-come k.script k.history.items mid mid.notes s c.args.t
-    (out-begins k.script k.history.items k.core mid k.out k.room _ c.self.invariant suits c.share.ensures.state
-    c.share.ensures.ready c.share.ensures.notes)
+    let begins = out-begins k.script k.history.items k.core mid k.out k.room _ c.self.invariant suits c.share.ensures.state
+    c.share.ensures.ready c.share.ensures.notes in
+    let left = place-left true k.script k.history.items k.core.notes k.room begins.valid c.self.invariant.short c.self.invariant.places in
+    may-come k.script k.history.items mid mid.notes s c.args.t begins (rw c.share.ensures.notes left)
     (out-notes k.script k.history.items k.core mid k.out k.room _ c.self.invariant suits c.share.ensures.state
     c.share.ensures.ready c.share.ensures.notes) its
 
@@ -78,7 +79,11 @@ invariant_of-self g c =
     let last = c.go_back.ensures.fewer in
     out-kernel k.script k.history.items k.core mid k.out k.room _ c.self.invariant suits c.share.ensures.state
     c.share.ensures.ready c.share.ensures.notes items core (Thread c.args.t) can c.go_back.ensures.went core
-    (k.out - 1) _ refl refl notes (omega arith) c.go_back.ensures.capacity
+    (k.out - 1) _ refl refl notes (omega arith) (ap (λ (n : Notes). n.places) c.go_back.ensures.notes) c.go_back.ensures.capacity
+    (let room = rw (← c.self.view_is) at c.requires.room in
+    let many = (out-notes k.script k.history.items k.core mid k.out k.room _ c.self.invariant suits c.share.ensures.state
+    c.share.ensures.ready c.share.ensures.notes).many in
+    let some = one-noted mid.notes.out s c.go_back.ensures.was_out in omega arith)
 
 pub returns-clause-mode : goal.returns-clause-mode
 returns-clause-mode g c =

@@ -1,10 +1,11 @@
-use Rattle.std.proofs.Common.{arith, false}
+use Rattle.std.proofs.Common.{arith, false, subst, sym}
 use Rattle.machine_safe.proofs.LegalSafety.{legal_safety}
 use Rattle.machine_safe.proofs.ReadyHolders.{holders_ready}
+use Rattle.kernel_tables.specs.Choosing.{HasRoom}
 use Rattle.kcore.specs.Acting.{acting}
 use Rattle.kcore.proofs.Alone.{none_out}
 use Rattle.kcore.proofs.Goes.{may, runs}
-use Rattle.kcore.proofs.KernelGoes.{alone-begins, alone-entry, alone-follows, alone-kernel, alone-mode, alone-stands, is-alone}
+use Rattle.kcore.proofs.KernelGoes.{alone-begins, alone-entry, alone-follows, alone-kernel, alone-mode, alone-stands, is-alone, place-left}
 use Rattle.kcore.proofs.OutKernel.{may-alone}
 use Rattle.kcore.proofs.kernel.Kernel.step.Goals as goal
 
@@ -20,6 +21,9 @@ go-requires-clause-may g c =
     let suits = rw (← c.self.view_is) at c.requires.mode in
     may-alone k.script k.history.items k.core k.core.notes (acting c.args.actor)
     (alone-begins k.script k.history.items k.core k.out k.room _ c.self.invariant suits)
+    (let begins = alone-begins k.script k.history.items k.core k.out k.room _ c.self.invariant suits in
+    let left = place-left false k.script k.history.items k.core.notes k.room begins.valid c.self.invariant.short c.self.invariant.places in
+    subst (HasRoom k.core.notes) (sym begins.state) left)
     (alone-stands k.script k.history.items k.core k.out k.room _ c.self.invariant suits).notes
 
 pub go-requires-clause-can : goal.go-requires-clause-can
@@ -48,7 +52,7 @@ invariant_of-self g c =
     let suits = rw (← c.self.view_is) at c.requires.mode in
     alone-kernel k.script k.history.items k.core k.out k.room _ c.self.invariant suits c.go.new.history.items
     c.go.new.core c.args.actor (rw (← c.self.view_is) at c.requires.can) c.go.ensures.went _ c.go.ensures.capacity
-    c.go.ensures.notes
+    c.go.ensures.notes (rw (← c.self.view_is) at c.requires.room)
 
 pub returns-clause-mode : goal.returns-clause-mode
 returns-clause-mode g c =

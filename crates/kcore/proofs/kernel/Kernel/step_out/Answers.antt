@@ -1,4 +1,5 @@
-use Rattle.std.proofs.Common.{◌≡◌, ◌∙◌, ◌<◌, ◌∷◌, [], length, length-append, true, false, arith, ap, sym, subst}
+use Rattle.std.proofs.Common.{◌≡◌, ◌∙◌, ◌<◌, ◌∷◌, [], length, length-append, true, false, arith, ap, refl, sym, subst, Option, Some, None}
+use Rattle.ref_words.specs.declared.slip.Slip.{Slip}
 use Rattle.entry_log.specs.declared.entry.Entry.{Entry}
 use Rattle.machine.specs.declared.state.State.{State}
 use Rattle.machine.specs.History.{after_in}
@@ -10,10 +11,15 @@ use Rattle.kcore.specs.Finds.{found_in}
 use Rattle.kcore.specs.Outgoing.{AreNotes}
 use Rattle.kcore.specs.Sending.{notes_after, slip_after}
 use Rattle.kcore.proofs.Goes.{may, runs}
-use Rattle.kcore.proofs.KernelGoes.{out-begins, out-follows, out-kernel, out-may-send, out-mode, out-notes, out-notes-next, out-sends}
+use Rattle.kcore.proofs.KernelGoes.{out-begins, out-follows, out-kernel, out-may-send, out-mode, out-notes, out-notes-next, out-sends, place-left}
 use Rattle.kcore.proofs.LastEntry.{last_is}
 use Rattle.kcore.proofs.OutKernel.{may-shared, out-keeping}
 use Rattle.kcore.proofs.kernel.Kernel.step_out.Goals as goal
+
+-- notes that went out leave the places
+notes-place : (s : Option Slip) (notes : Notes) → (notes_after s notes).places ≡ notes.places
+notes-place None notes = refl
+notes-place (Some s) notes = refl
 
 pub go-requires-clause-runs : goal.go-requires-clause-runs
 go-requires-clause-runs g c =
@@ -31,7 +37,9 @@ go-requires-clause-may g c =
     c.share.ensures.state c.share.ensures.ready c.share.ensures.notes in
     let notes = out-notes k.script k.history.items k.core c.share.new.self k.out k.room _ c.self.invariant suits
     c.share.ensures.state c.share.ensures.ready c.share.ensures.notes in
-    may-shared k.script k.history.items c.share.new.self c.share.new.self.notes c.args.actor begins notes (rw (← c.self.view_is) at c.requires.stays)
+    let left = place-left true k.script k.history.items k.core.notes k.room begins.valid c.self.invariant.short c.self.invariant.places in
+    may-shared k.script k.history.items c.share.new.self c.share.new.self.notes c.args.actor begins
+    (rw c.share.ensures.notes left) notes (rw (← c.self.view_is) at c.requires.stays)
 
 pub go-requires-clause-can : goal.go-requires-clause-can
 go-requires-clause-can g c =
@@ -105,7 +113,11 @@ invariant_of-self g c =
     let notes = subst (λ (n : Notes). AreNotes items (after_in true k.script items) n) (sym c.send.ensures.notes) are in
     out-kernel k.script k.history.items k.core mid k.out k.room _ c.self.invariant suits c.share.ensures.state
     c.share.ensures.ready c.share.ensures.notes items core c.args.actor can c.go.ensures.went c.send.new.core
-    c.send.new.out _ c.send.ensures.state c.send.ensures.ready notes c.send.ensures.counted c.go.ensures.capacity
+    c.send.new.out _ c.send.ensures.state c.send.ensures.ready notes c.send.ensures.counted
+    (ap (λ (n : Notes). n.places) c.send.ensures.notes
+    ∙ notes-place (slip_after c.go.new.core.state c.found_in-found.result c.go.new.core.notes) c.go.new.core.notes
+    ∙ ap (λ (n : Notes). n.places) c.go.ensures.notes) c.go.ensures.capacity
+    (let room = rw (← c.self.view_is) at c.requires.room in omega arith)
 
 pub returns-clause-mode : goal.returns-clause-mode
 returns-clause-mode g c =
@@ -141,7 +153,7 @@ pub returns-clause-notes : goal.returns-clause-notes
 returns-clause-notes g c =
     let core = c.go.new.core in
     rw (← c.self.view_is, c.send.ensures.slip)
-    (c.send.ensures.notes ∙ ap (λ (n : Notes). notes_after (slip_after c.found_in-found.result core.notes) n)
+    (c.send.ensures.notes ∙ ap (λ (n : Notes). notes_after (slip_after core.state c.found_in-found.result core.notes) n)
     (c.go.ensures.notes ∙ c.share.ensures.notes))
 
 pub returns-clause-legal : goal.returns-clause-legal

@@ -1,4 +1,4 @@
-use Rattle.std.proofs.Common.{◌≡◌, [], ap, subst, sym}
+use Rattle.std.proofs.Common.{◌≡◌, [], ap, refl, subst, sym}
 use Rattle.sym_base.specs.declared.number.ObjNo.{ObjNo}
 use Rattle.script_types.specs.declared.script.Script.{Script}
 use Rattle.machine.specs.declared.mode.Mode.{Mode}
@@ -16,6 +16,9 @@ runs_chosen : {W N : Type 0} (script : Script) (t : ObjNo) (m : Move) (old new :
     → MoveRuns script t m (state_of old) → MoveRuns script t m (chosen_state old new)
 runs_chosen script t m old new same runs = subst (MoveRuns script t m) (sym (ap (λ (mode : Mode). keeping mode.keep (state_of old)) same)) runs
 
+pub open_noted-requires-clause-sought : goal.open_noted-requires-clause-sought
+open_noted-requires-clause-sought g c = rw (← c.self.view_is) at c.requires.sought
+
 pub arrive_touched-requires-clause-known : goal.arrive_touched-requires-clause-known
 arrive_touched-requires-clause-known g c =
     let m = Open c.args.thread c.args.object c.args.part in
@@ -31,7 +34,7 @@ invariant_of-self g c =
     let asked = (rw (← c.self.view_is) at c.requires.runs) c.open_noted.ensures.was_out in
     let runs = runs_chosen c.args.script.now c.args.thread m c.self.inside.tables c.open_noted.new.tables moved.mode asked in
     record {
-      kept = still_kept c.args.script.now c.args.thread m c.self.inside.tables c.open_noted.new.tables runs c.self.invariant.kept moved;
+      kept = still_kept c.args.script.now c.args.thread m c.self.inside.tables c.open_noted.new.tables refl runs c.self.invariant.kept moved;
       size = c.arrive_touched.ensures.size;
     }
 

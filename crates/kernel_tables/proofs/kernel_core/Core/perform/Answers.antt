@@ -10,10 +10,10 @@ use Rattle.machine.specs.References.{total}
 use Rattle.readings.specs.Dying.{dead_by, dead_told, told_alive}
 use Rattle.readings.proofs.Telling.{told_dead}
 use Rattle.kernel_tables.specs.Choosing.{closing_bit, mode_after}
-use Rattle.kernel_tables.specs.Moved.{AreKnown, MovesGo, chosen_state}
+use Rattle.kernel_tables.specs.Moved.{AreKnown, MovesGo, chosen_state, making_bit}
 use Rattle.kernel_tables.specs.declared.tables.Tables.{Tables}
 use Rattle.kernel_tables.specs.StateOf.{state_of}
-use Rattle.kernel_tables.proofs.Performing.{performed_one, still_kept, still_sought, told_both, none_dead, way_begins, way_ends, way_few, way_goes, way_goes_on, way_may, next_item, none_left}
+use Rattle.kernel_tables.proofs.Performing.{performed_one, still_kept, still_made, still_sought, told_both, none_dead, way_begins, way_ends, way_few, way_goes, way_goes_on, way_may, way_place, next_item, none_left}
 use Rattle.kernel_tables.proofs.kernel_core.Core.perform.Goals as goal
 
 pub loop-change-init : goal.loop-change-init
@@ -21,6 +21,7 @@ loop-change-init g c = record {
   way = way_begins c.args.script.now c.args.thread c.as_slice-change-items.result.now (state_of c.self.inside.tables) c.self.inside.ready c.args.effects.now;
   kept = c.self.invariant.kept;
   size = c.self.invariant.size;
+  made = rw (← c.self.view_is) at c.requires.may.made;
   sought = rw (← c.self.view_is) at c.requires.may.sought;
   notes = refl;
 }
@@ -69,8 +70,30 @@ make_move-dead-requires-clause-may g c =
       way_may c.args.script.now c.args.thread _
           (state_of c.self.inside.tables) c.self.inside.ready c.args.effects.now m _ S c.loop-change.ready
           c.loop-change.effects once way unchosen closes,
-      λ o noted. (c.loop-change.invariant.sought o noted).0,
+      λ o there noted. let sought = c.loop-change.invariant.sought o there noted in (sought.0, sought.1),
     )
+
+pub make_move-dead-requires-clause-place : goal.make_move-dead-requires-clause-place
+make_move-dead-requires-clause-place g c =
+    let m = c.change-item.result in
+    let S = state_of c.loop-change.tables in
+    let next = next_item c.as_slice-change-items.result.now c.loop-change.change-index m c.loop-change-test.true c.change-item.is in
+    let way = rw next at c.loop-change.invariant.way in
+    let once : total closing_bit c.as_slice-change-items.result.now ≤ 1 = rw c.as_slice-change-items.ensures.moves (rw (← c.self.view_is) at c.requires.once) in
+    let makes : total making_bit c.as_slice-change-items.result.now ≤ 1 =
+    rw c.as_slice-change-items.ensures.moves (rw (← c.self.view_is) at c.requires.makes) in
+    let room = (rw (← c.self.view_is) at c.requires.may).room in
+    let kept = c.loop-change.invariant.kept in
+    let go : (keep : Bool) → MovesGo c.args.script.now c.args.thread c.as_slice-change-items.result.now
+    (keeping keep (state_of c.self.inside.tables)) =
+    rw c.as_slice-change-items.ensures.moves (rw (← c.self.view_is) at c.requires.go) in
+    let can = (way_goes c.args.script.now c.args.thread _
+    (state_of c.self.inside.tables) c.self.inside.ready c.args.effects.now m _ S c.loop-change.ready
+    c.loop-change.effects once way go S.mode.keep (λ none. refl)).can in
+    rw (c.loop-change.invariant.notes, kept.reuses)
+    (way_place c.args.script.now c.args.thread _ (state_of c.self.inside.tables) c.self.inside.ready c.args.effects.now m _ S c.loop-change.ready
+    c.loop-change.effects once way c.self.inside.tables.objects.notes.places makes room
+    (λ first. rw c.loop-change.invariant.notes at (kept.placed (kept.reuses ∙ first))) can)
 
 -- the choice that the move left
 leaves : {W N : Type 0} (m : Move) (old new : Tables W N)
@@ -149,9 +172,10 @@ loop-change-preserved g c =
           rw effects (way_goes_on script t _ first c.self.inside.ready c.args.effects.now m _
           (state_of old) c.loop-change.ready c.loop-change.effects once way
           (state_of new) c.follow_move.new.ready _ one);
-      kept = still_kept script t m old new goes.runs c.loop-change.invariant.kept moved;
+      kept = still_kept script t m old new refl goes.runs c.loop-change.invariant.kept moved;
       size = c.follow_move.ensures.size;
-      sought = still_sought script t m old new goes.runs moved c.loop-change.invariant.sought;
+      made = still_made t m old new moved c.loop-change.invariant.made;
+      sought = still_sought script t m old new goes.runs moved c.loop-change.invariant.made c.loop-change.invariant.sought;
       notes = moved.notes ∙ c.loop-change.invariant.notes;
     }
 

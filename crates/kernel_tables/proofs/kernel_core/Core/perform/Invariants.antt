@@ -1,6 +1,6 @@
 use Rattle.std.proofs.Common.{◌≡◌, drop}
 use Rattle.sym_base.specs.declared.limits.TheConstants.Limits.{BOOT_OBJECTS}
-use Rattle.kernel_tables.specs.Choosing.{AreSoughtBeside}
+use Rattle.kernel_tables.specs.Choosing.{AreNotesMade, AreSoughtBeside}
 use Rattle.kernel_tables.specs.Noted.{AreKept}
 use Rattle.kernel_tables.specs.StateOf.{state_of}
 use Rattle.kernel_tables.proofs.Performing.{OnTheWay}
@@ -12,6 +12,7 @@ invariant-loop-change g l = record {
       (drop l.change-index l.change-items) (state_of l.tables) l.ready l.effects;
   kept : AreKept l.tables;
   size : l.ready.threads ≡ BOOT_OBJECTS;
+  made : AreNotesMade l.tables.objects.notes (state_of l.tables);
   sought : AreSoughtBeside l.thread l.tables.objects.notes (state_of l.tables);
   notes : l.tables.objects.notes ≡ l.initial.tables.objects.notes;
 }

@@ -17,9 +17,15 @@ pub invariant_of-self : goal.invariant_of-self
 invariant_of-self g c =
     let kept = c.self.invariant.kept in
     record {
-      kept = record { counts = rw c.send_out.ensures.counts kept.counts; tied = kept.tied; numbered = kept.numbered };
+      kept = record {
+        counts = rw c.send_out.ensures.counts kept.counts;
+        tied = kept.tied;
+        numbered = kept.numbered;
+        reuses = c.send_out.ensures.mode ∙ kept.reuses;
+        placed = λ first. rw c.send_out.ensures.notes (kept.placed (sym c.send_out.ensures.mode ∙ first));
+      };
       size = c.self.invariant.size;
     }
 
 pub returns-clause-state : goal.returns-clause-state
-returns-clause-state g c = rw (← c.self.view_is) (rw c.send_out.ensures.rows refl)
+returns-clause-state g c = rw (← c.self.view_is) (rw (c.send_out.ensures.rows, c.send_out.ensures.makings) refl)
