@@ -81,7 +81,7 @@ fn kernel_for_three(
 }
 
 /// The passes of three callers.
-fn three(alloc: Global, first: Pass, second: Pass, third: Pass) -> Result<Vec<Pass>, AllocError>
+pub fn three(alloc: Global, first: Pass, second: Pass, third: Pass) -> Result<Vec<Pass>, AllocError>
     ensures { IfOk result (λ passes. passes.items ≡ first ∷ second ∷ third ∷ []) }
 {
     let mut passes = Vec::with_capacity(alloc, 3)?;
@@ -101,7 +101,7 @@ fn text_of(alloc: Global, history: &[Entry]) -> Result<Vec<u8>, AllocError> {
 }
 
 /// The lines of the whole history, once all callers come back.
-fn text_after(alloc: Global, kernel: SharedKernel, passes: Vec<Pass>) -> Option<Vec<u8>>
+pub fn text_after(alloc: Global, kernel: SharedKernel, passes: Vec<Pass>) -> Option<Vec<u8>>
     requires free { All (IsFree kernel) passes.items }
     requires all { (caller : ℕ) → caller < kernel.passes → Contains (map caller_of passes.items) caller }
 {
@@ -110,7 +110,7 @@ fn text_after(alloc: Global, kernel: SharedKernel, passes: Vec<Pass>) -> Option<
 }
 
 /// A thread acts. Whether it made an entry, and found nothing.
-fn acts<R: Wait>(rt: &R, kernel: &SharedKernel, pass: &mut Pass, thread: ThreadNo) -> bool
+pub fn acts<R: Wait>(rt: &R, kernel: &SharedKernel, pass: &mut Pass, thread: ThreadNo) -> bool
     requires { IsFree kernel.now pass.old }
     ensures free { IsFree kernel.now pass.new }
     ensures caller { caller_of pass.new ≡ caller_of pass.old }
@@ -155,7 +155,7 @@ pub fn opened(mut ticket: Ticket) -> (Ticket, Found)
 }
 
 /// The kernel of a text for three callers, and their passes.
-fn callers_of(alloc: Global, text: &str) -> Option<(SharedKernel, Pass, Pass, Pass)>
+pub fn callers_of(alloc: Global, text: &str) -> Option<(SharedKernel, Pass, Pass, Pass)>
     ensures passes { IfSome result (λ made. made.0.passes ≡ 3) }
     ensures free { IfSome result (λ made. IsFree made.0 made.1 × IsFree made.0 made.2 × IsFree made.0 made.3) }
     ensures callers { IfSome result (λ made. (caller_of made.1 ≡ 0) × (caller_of made.2 ≡ 1) × (caller_of made.3 ≡ 2)) }
@@ -271,7 +271,7 @@ fn text_unfound<R: Wait>(rt: &R, alloc: Global) -> Option<Vec<u8>> {
 }
 
 /// Compares the lines of a history.
-fn expect_text<R: Abort>(rt: &R, made: Option<Vec<u8>>, expected: &str) -> Result<(), Fail> {
+pub fn expect_text<R: Abort>(rt: &R, made: Option<Vec<u8>>, expected: &str) -> Result<(), Fail> {
     let Some(text) = made else {
         return Err("a call answered otherwise".into());
     };

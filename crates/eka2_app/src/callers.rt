@@ -13,9 +13,8 @@ ghost use Rattle.kcore.specs.KernelMode.{Fresh, Suits, mode_of};
 ghost use Rattle.eka2_app.specs.Callers.{notes_kept};
 
 use entry_log::{Actor, Entry, FinalRow};
-use kcore::Kernel;
+use kcore::{Kernel, places_for};
 use ref_words::{PlainNote, PlainWords};
-use runner::PLACES;
 use script_types::{Script, Slot};
 use std::alloc::Global;
 use std::marker::Model;
@@ -45,7 +44,7 @@ fn kernel_at_boot(alloc: Global, script: Script) -> Result<Kernel<PlainWords>, N
     ensures room { IfOk result (λ kernel. kernel.room ≡ 1000) }
     ensures fresh { IfOk result (λ kernel. kernel.mode ≡ Fresh) }
 {
-    let words = PlainWords::new(alloc, PLACES)?;
+    let words = PlainWords::new(alloc, places_for(script.version, ROOM))?;
     Kernel::boot(alloc, script, words, ROOM)
 }
 

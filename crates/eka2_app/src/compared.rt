@@ -9,10 +9,10 @@ use crate::server_tests::DYING_SERVER_SCRIPT;
 use crate::tests::{DEATHS_SCRIPT, DYING_SCRIPT, SCRIPT};
 use arrayvec::ArrayVec;
 use entry_log::{Entry, FinalRow, entry_text, final_text};
-use kcore::Kernel;
+use kcore::{Kernel, places_for};
 use plain_machine::Plain;
 use ref_words::PlainWords;
-use runner::{PLACES, make_history};
+use runner::make_history;
 use script_grammar::is_well_formed;
 use script_read::{ReadScript, read_script};
 use script_types::{Limits, Script};
@@ -159,7 +159,7 @@ fn short_kernel(alloc: Global, script: Script) -> Result<Kernel<PlainWords>, NoM
     ensures empty { IfOk result (λ kernel. kernel.history ≡ []) }
     ensures fresh { IfOk result (λ kernel. kernel.mode ≡ Fresh) }
 {
-    let words = PlainWords::new(alloc, PLACES)?;
+    let words = PlainWords::new(alloc, places_for(script.version, 1))?;
     Kernel::boot(alloc, script, words, 1)
 }
 

@@ -3,6 +3,8 @@
 #![tactic(auto)]
 
 #[cfg(test)]
+mod again_tests;
+#[cfg(test)]
 mod both_ways_tests;
 #[cfg(test)]
 mod caller_tests;

@@ -3,14 +3,11 @@ ghost use Rattle.std.specs.Prelude.{IfOk};
 ghost use Rattle.runner.specs.RunText.{HasRun};
 ghost use Rattle.script_types.specs.Source.{IsWellFormed};
 
-use kcore::Kernel;
+use kcore::{Kernel, places_for};
 use ref_words::PlainWords;
 use script_types::Script;
 use std::alloc::Global;
-use sym_base::{Limits, NoMemory};
-
-/// The places of the count words: one for each object that a kernel may make.
-pub const PLACES: u32 = Limits::OBJECTS as u32;
+use sym_base::NoMemory;
 
 /// Makes the whole history of a script: each slot of its schedule makes one entry.
 #[tactic(auto, using(machine_laws::proofs::ValidSlots::valid_slots_few))]
@@ -20,7 +17,7 @@ pub fn make_history(alloc: Global, script: Script) -> Result<Kernel<PlainWords>,
 {
     let slots = script.slots.copied(alloc)?;
     let room = slots.len() as u32;
-    let words = PlainWords::new(alloc, PLACES)?;
+    let words = PlainWords::new(alloc, places_for(script.version, room))?;
     let mut kernel = Kernel::boot(alloc, script, words, room)?;
     for slot in slots.as_slice() {
         kernel.slot(*slot);

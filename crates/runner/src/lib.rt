@@ -21,7 +21,7 @@ mod whole;
 
 pub use brief::run_brief;
 pub use check::run_check;
-pub use history::{PLACES, make_history};
+pub use history::make_history;
 pub use load::run_load;
 pub use make::write_made;
 pub use schedule::run_schedule;

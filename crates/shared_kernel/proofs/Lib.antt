@@ -3,6 +3,7 @@ pub mod Calls
 pub mod Doing
 pub mod Drawing
 pub mod Finding
+pub mod FoundDied
 pub mod Room
 pub mod Sent
 pub mod Shareable

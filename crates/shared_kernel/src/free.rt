@@ -14,7 +14,7 @@ use crate::acting::{act_out, come_back, entries, slot_out};
 use crate::answers::Did;
 use crate::base::KernelBase;
 use count_rule::{StateSeat, Ticket};
-use kcore::Kernel;
+use kcore::{Kernel, places_for};
 use script_types::{Script, Slot};
 use std::alloc::Global;
 use std::marker::Model;
@@ -65,8 +65,9 @@ impl Free {
         ensures script { IfOk result (λ made. made.script ≡ script) }
         ensures empty { IfOk result (λ made. made.history ≡ []) }
     {
-        let words = StateSeat::new(alloc, Limits::OBJECTS as u32)?;
-        let kernel = Kernel::boot(alloc, script, words, Limits::SHARED_HISTORY as u32)?;
+        let room = Limits::SHARED_HISTORY as u32;
+        let words = StateSeat::new(alloc, places_for(script.version, room))?;
+        let kernel = Kernel::boot(alloc, script, words, room)?;
         Ok(Free { kernel })
     }
 

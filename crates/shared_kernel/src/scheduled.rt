@@ -13,7 +13,7 @@ use crate::acting::{come_back, entries, slot_out};
 use crate::answers::Drew;
 use crate::base::KernelBase;
 use count_rule::{StateSeat, Ticket};
-use kcore::Kernel;
+use kcore::{Kernel, places_for};
 use script_types::{Script, Slot};
 use std::alloc::Global;
 use std::marker::Model;
@@ -58,8 +58,9 @@ impl Scheduled {
         ensures empty { IfOk result (λ made. made.history ≡ []) }
     {
         let slots = script.slots.copied(alloc)?;
-        let words = StateSeat::new(alloc, Limits::OBJECTS as u32)?;
-        let kernel = Kernel::boot(alloc, script, words, Limits::SHARED_HISTORY as u32)?;
+        let room = Limits::SHARED_HISTORY as u32;
+        let words = StateSeat::new(alloc, places_for(script.version, room))?;
+        let kernel = Kernel::boot(alloc, script, words, room)?;
         Ok(Scheduled {
             kernel,
             slots,

@@ -6,6 +6,9 @@ use Rattle.kcore.proofs.ModesSuit.{fresh-suits, whole-suits}
 use Rattle.runner.proofs.Runs.{run_step, run_longer}
 use Rattle.runner.proofs.history.make_history.Goals as goal
 
+pub places_for-requires : goal.places_for-requires
+places_for-requires c = rw (c.len-room.ensures, c.in_ok-slots.ensures) (omega (arith, valid_slots_few c.args.script c.requires))
+
 pub boot-requires-clause-room : goal.boot-requires-clause-room
 boot-requires-clause-room c = rw (c.len-room.ensures, c.in_ok-slots.ensures) (omega (arith, valid_slots_few c.args.script c.requires))
 

@@ -45,7 +45,15 @@ returns-clause-back c =
     let said = c.come_back.ensures in
     let legal = c.history.ensures.legal true c.requires.shareable.mode in
     let comes = comes-back k.script k.history c.come_back.new.self.history c.args.thread c.requires.shareable.valid legal said.entry said.was_out in
-    record { made = said.entry; was_out = said.was_out; object = comes.object; found = comes.found; tells = comes.tells; at = c.entries.ensures.entries }
+    record {
+      made = said.entry;
+      was_out = said.was_out;
+      object = comes.object;
+      sought = comes.sought;
+      found = comes.found;
+      tells = comes.tells;
+      at = c.entries.ensures.entries;
+    }
 
 pub returns-clause-shareable : goal.returns-clause-shareable
 returns-clause-shareable c =
