@@ -80,8 +80,8 @@ impl<W: RefWords + Drop> Kernel<W> {
         ensures safe { IfOk result (λ kernel. IsSafe kernel.script kernel.history) }
         ensures holders { IfOk result (λ kernel. AreHoldersReady kernel.script kernel.history) }
     {
-        let core = boot::boot(alloc, &script, words)?;
         let history = Vec::with_capacity(alloc, room as usize)?;
+        let core = boot::boot(alloc, &script, words)?;
         Ok(Kernel {
             script,
             core,

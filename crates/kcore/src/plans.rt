@@ -19,6 +19,7 @@ use script_types::Script;
 use sym_base::ThreadNo;
 
 /// The end of an action that was made: whoever isn't ready any more leaves, and the entry, which has the effects, tells the rest.
+#[inline(always)]
 pub fn finish<W: RefWords + Drop>(
     script: &Script,
     core: &mut Core<W>,

@@ -47,11 +47,11 @@ fn synchronization_of(
 ) -> Result<Synchronization, NoMemory>
     ensures { IfOk result (λ synchronization. synchronization ≡ record { nano = nano_of fast all.now; deferred = calls; requests = request_rows (length all.now) DEVICES; locks = lock_rows OBJECTS; mutexes = map (λ _. []) all.now; logons = map (λ _. []) all.now }) }
 {
-    let nano = nano_of(alloc, fast, all)?;
-    let requests = no_requests(alloc, all.len())?;
-    let locks = no_locks(alloc, Limits::OBJECTS)?;
     let mutexes = empty_lists(alloc, all)?;
     let logons = empty_lists(alloc, all)?;
+    let locks = no_locks(alloc, Limits::OBJECTS)?;
+    let requests = no_requests(alloc, all.len())?;
+    let nano = nano_of(alloc, fast, all)?;
     Ok(Synchronization {
         nano,
         deferred: calls,

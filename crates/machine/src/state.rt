@@ -26,10 +26,10 @@ impl State {
     {
         Ok(State {
             mode: self.mode,
-            references: self.references.copied(alloc)?,
-            synchronization: self.synchronization.copied(alloc)?,
-            serving: self.serving.copied(alloc)?,
             services: self.services.copied(alloc)?,
+            references: self.references.copied(alloc)?,
+            serving: self.serving.copied(alloc)?,
+            synchronization: self.synchronization.copied(alloc)?,
         })
     }
 }

@@ -78,12 +78,12 @@ impl Synchronization {
         ensures { IfOk result (λ copy. copy ≡ self.now) }
     {
         Ok(Synchronization {
-            nano: copied_nano(alloc, &self.nano)?,
-            deferred: copied_deferred(alloc, &self.deferred)?,
-            requests: copied_requests(alloc, &self.requests)?,
-            locks: copied_locks(alloc, &self.locks)?,
             mutexes: copied_lists(alloc, self.mutexes.as_slice())?,
             logons: copied_lists(alloc, self.logons.as_slice())?,
+            deferred: copied_deferred(alloc, &self.deferred)?,
+            locks: copied_locks(alloc, &self.locks)?,
+            requests: copied_requests(alloc, &self.requests)?,
+            nano: copied_nano(alloc, &self.nano)?,
         })
     }
 }

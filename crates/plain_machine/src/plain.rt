@@ -26,7 +26,8 @@ use sym_base::{Items, NoMemory, ThreadNo};
 pub struct Plain {
     alloc: Global,
     script: Script,
-    state: State,
+    /// Boxed, since a machine moves as a whole while the state is large.
+    state: Box<State>,
     ready: Items<ThreadNo>,
     history: Items<Entry>,
 }
@@ -36,9 +37,9 @@ impl Model for Plain {
 
     ghost Value = { PlainView };
 
-    ghost view = { λ p. record { script = p.script; history = p.history; shared = p.state.mode.shared } };
+    ghost view = { λ p. record { script = p.script; history = p.history; shared = p.state.value.mode.shared } };
 
-    ghost invariant = { λ p. IsPlain p.script p.history p.state p.ready };
+    ghost invariant = { λ p. IsPlain p.script p.history p.state.value p.ready };
 }
 
 /// Whom a slot lets act.
@@ -53,7 +54,12 @@ fn slot_actor(state: &State, ready: &[ThreadNo], slot: Slot) -> Actor
 }
 
 /// Puts another state in a state's place, and another ready list in the list's.
-fn set_state(state: &mut State, ready: &mut Items<ThreadNo>, other: State, list: Items<ThreadNo>)
+fn set_state(
+    state: &mut Box<State>,
+    ready: &mut Items<ThreadNo>,
+    other: Box<State>,
+    list: Items<ThreadNo>,
+)
     ensures state { state.new ≡ other }
     ensures ready { ready.new ≡ list }
 {
@@ -67,8 +73,8 @@ impl Plain {
         requires { IsWellFormed script }
         ensures { IfOk result (λ plain. plain ≡ record { script = script; history = []; shared = false }) }
     {
-        let state = state_at_boot(alloc, &script)?;
         let ready = ready_at_boot(alloc, &script)?;
+        let state = Box::new(alloc, state_at_boot(alloc, &script)?)?;
         Ok(Plain {
             alloc,
             script,
@@ -91,11 +97,11 @@ impl Plain {
     {
         let place = self.history.len() as u32 + 1;
         let actor = slot_actor(&self.state, self.ready.as_slice(), slot);
-        let before = self.state.copied(self.alloc)?;
-        let (state, ready, entry) = acted(
+        let mut state = Box::new(self.alloc, self.state.copied(self.alloc)?)?;
+        let (ready, entry) = acted(
             self.alloc,
             &self.script,
-            before,
+            &mut state,
             &self.ready,
             place,
             actor,
@@ -117,18 +123,18 @@ impl Plain {
         ensures refused { IfOk result (IfNotLegal (self.new ≡ self.old × (CanAct self.old.script (after_in true self.old.script self.old.history) actor → ⊥))) }
         ensures err { OnErr result (self.new ≡ self.old) }
     {
-        let before = self.state.copied(self.alloc)?;
+        let mut state = Box::new(self.alloc, self.state.copied(self.alloc)?)?;
         let made = acted_shared(
             self.alloc,
             &self.script,
             &mut self.history,
-            before,
+            &mut state,
             &self.ready,
             actor,
             keep,
         )?;
         match made {
-            Some((state, ready, entry)) => {
+            Some((ready, entry)) => {
                 set_state(&mut self.state, &mut self.ready, state, ready);
                 Ok(Stepped::Entry(entry))
             }
@@ -150,13 +156,21 @@ impl Plain {
         let Plain {
             alloc,
             script,
-            state,
+            mut state,
             ready,
             mut history,
         } = self;
-        let made = acted_shared(alloc, &script, &mut history, state, &ready, actor, keep)?;
+        let made = acted_shared(
+            alloc,
+            &script,
+            &mut history,
+            &mut state,
+            &ready,
+            actor,
+            keep,
+        )?;
         match made {
-            Some((state, ready, entry)) => {
+            Some((ready, entry)) => {
                 let plain = Plain {
                     alloc,
                     script,
