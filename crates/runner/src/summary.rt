@@ -36,35 +36,46 @@ pub struct Summary {
     pub objects: usize,
 }
 
-/// The messages that an entry accepts.
-fn accepted_by(entry: &Entry) -> usize
-    ensures count { result ≡ count_by is_accept entry.now.effects }
-    ensures few { result ≤ 4 }
+/// Whether an effect accepts a message.
+fn accepts(effect: &Effect) -> bool
+    ensures { result ≡ is_accept effect.now }
 {
-    let effects = entry.effects.as_slice();
-    effects
-        .iter()
-        .filter(|effect| matches!(effect, Effect::Accept(_)))
-        .count()
+    matches!(effect, Effect::Accept(_))
 }
 
-/// The messages that it finishes.
-fn finished_by(entry: &Entry) -> usize
-    ensures count { result ≡ count_by is_finish entry.now.effects }
-    ensures few { result ≤ 4 }
+/// Whether it finishes one.
+fn finishes(effect: &Effect) -> bool
+    ensures { result ≡ is_finish effect.now }
 {
-    let effects = entry.effects.as_slice();
-    effects
-        .iter()
-        .filter(|effect| matches!(effect, Effect::Finish(..)))
-        .count()
+    matches!(effect, Effect::Finish(..))
 }
 
-/// The messages of a history: those that were accepted, and those that were finished.
+/// How many messages were accepted, and how many finished.
 #[derive(Clone, Copy)]
 struct Messages {
     accepted: usize,
     finished: usize,
+}
+
+/// Counts the messages that an entry accepts and finishes, in one pass over its effects.
+fn messages_by(entry: &Entry) -> Messages
+    ensures accepted { result.accepted ≡ count_by is_accept entry.now.effects }
+    ensures finished { result.finished ≡ count_by is_finish entry.now.effects }
+    ensures few_accepted { result.accepted ≤ 4 }
+    ensures few_finished { result.finished ≤ 4 }
+{
+    let effects = entry.effects.as_slice();
+    let mut accepted = 0;
+    let mut finished = 0;
+    for effect in effects {
+        if accepts(effect) {
+            accepted += 1;
+        }
+        if finishes(effect) {
+            finished += 1;
+        }
+    }
+    Messages { accepted, finished }
 }
 
 /// Counts the messages of a history.
@@ -76,8 +87,9 @@ fn messages_of(history: &[Entry]) -> Messages
     let mut accepted = 0;
     let mut finished = 0;
     for entry in history {
-        accepted += accepted_by(entry);
-        finished += finished_by(entry);
+        let messages = messages_by(entry);
+        accepted += messages.accepted;
+        finished += messages.finished;
     }
     Messages { accepted, finished }
 }
