@@ -4,8 +4,6 @@
 mod cleanup;
 mod duties;
 mod items;
-#[cfg(test)]
-mod tests;
 
 pub use cleanup::Cleanup;
 pub use duties::DUTIES;

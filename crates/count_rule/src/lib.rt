@@ -6,8 +6,6 @@ mod rule;
 mod share;
 mod state_seat;
 mod steps;
-#[cfg(test)]
-mod tests;
 mod ticket;
 mod view;
 

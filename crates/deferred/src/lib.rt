@@ -3,8 +3,6 @@
 
 mod item;
 mod queues;
-#[cfg(test)]
-mod tests;
 
 pub use queues::{Deferred, FIRST_BURIAL};
 pub use state_rows::{DfcPlace, Item};

@@ -4,8 +4,6 @@
 mod bytes;
 mod copies;
 mod ends;
-#[cfg(test)]
-mod tests;
 
 pub use copies::Descopy;
 pub use copy_rules::{Job, Piece};

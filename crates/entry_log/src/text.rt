@@ -9,6 +9,3 @@ mod steps;
 
 pub use entries::entry_text;
 pub use rows::final_text;
-
-#[cfg(test)]
-mod tests;

@@ -3,8 +3,6 @@
 
 mod free;
 mod table;
-#[cfg(test)]
-mod tests;
 mod used;
 
 pub use table::{Added, Handles};

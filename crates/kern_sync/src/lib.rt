@@ -2,7 +2,5 @@
 #![tactic(auto)]
 
 mod sync;
-#[cfg(test)]
-mod tests;
 
 pub use sync::KernSync;

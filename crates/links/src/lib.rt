@@ -3,7 +3,5 @@
 
 mod links;
 mod neighbours;
-#[cfg(test)]
-mod tests;
 
 pub use links::Links;

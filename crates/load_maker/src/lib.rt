@@ -4,8 +4,6 @@
 mod draws;
 mod made;
 mod round;
-#[cfg(test)]
-mod tests;
 mod threads;
 
 pub use made::make_script;

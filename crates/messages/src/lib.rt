@@ -4,8 +4,6 @@
 mod answers;
 mod records;
 mod table;
-#[cfg(test)]
-mod tests;
 
 pub use answers::{Accepted, Finished};
 pub use table::Messages;

@@ -4,8 +4,6 @@
 mod choice;
 mod interrupts;
 mod nano;
-#[cfg(test)]
-mod tests;
 
 pub use choice::{chosen, tick, wanted_holder};
 pub use interrupts::{InterruptBody, interrupt};

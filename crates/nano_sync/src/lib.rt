@@ -3,7 +3,5 @@
 #![tactic(auto)]
 
 mod sync;
-#[cfg(test)]
-mod tests;
 
 pub use sync::{MAX_SUSPENSIONS, NanoSync};

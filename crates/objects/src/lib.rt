@@ -5,8 +5,6 @@ mod free;
 mod names;
 mod objects;
 mod row;
-#[cfg(test)]
-mod tests;
 
 pub use objects::{Made, Objects};
 pub use row::ObjRow;

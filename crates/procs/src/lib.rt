@@ -2,7 +2,5 @@
 #![tactic(auto)]
 
 mod procs;
-#[cfg(test)]
-mod tests;
 
 pub use procs::Procs;

@@ -3,7 +3,5 @@
 
 mod mask;
 mod ready;
-#[cfg(test)]
-mod tests;
 
 pub use ready::{PRIORITIES, ReadyList};

@@ -4,8 +4,6 @@
 mod answer;
 mod plain;
 mod slip;
-#[cfg(test)]
-mod tests;
 mod words;
 
 pub use answer::{Closed, Found, Stage};

@@ -4,8 +4,6 @@
 
 mod drops;
 mod table;
-#[cfg(test)]
-mod tests;
 
 pub use state_rows::{PENDING, Request, STATUSES};
 pub use table::{Began, Requests};

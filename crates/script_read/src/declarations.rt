@@ -225,30 +225,3 @@ impl<'a> FileNames<'a> {
         Ok(())
     }
 }
-
-#[cfg(test)]
-mod tests {
-    use super::*;
-    use std::test::Fail;
-
-    /// Lines in any order, with spaces, comments and bad lines among them.
-    const FILE: &str =
-        "#thread x\n  dfcq   work 300\nkthread main\n dfc late\nidfc soon nowhere\nirq 7\nirq 07\nschedule\nirq 8\nthread end";
-
-    #[test]
-    fn keeps_what_each_line_declares(rt: HostRuntime) -> Result<(), Fail> {
-        let known = declarations_of(rt.alloc(), FILE.as_bytes())?;
-        assert_eq!(rt; known.threads.len(), 3);
-        assert_eq!(rt; known.queues.len(), 1);
-        assert_eq!(rt; known.irqs.len(), 1);
-        assert!(rt; has_name(&known.threads, b"work"));
-        assert!(rt; has_name(&known.threads, b"main"));
-        assert!(rt; has_name(&known.threads, b"end"));
-        assert!(rt; has_name(&known.queues, b"work"));
-        assert!(rt; has_name(&known.dfcs, b"late"));
-        assert!(rt; has_name(&known.idfcs, b"soon"));
-        assert!(rt; known.irqs.contains(&7));
-        assert!(rt; !has_name(&known.threads, b"x"));
-        Ok(())
-    }
-}

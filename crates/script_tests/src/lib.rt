@@ -1,19 +1,23 @@
-//! Tests of reading and printing scripts, and of calls below that nothing else makes.
+//! Tests of the crates of texts: reading and printing scripts, lines of entries, sources and sinks, and made scripts.
 #![tactic(auto)]
 
+#[cfg(test)]
+mod declaration_tests;
+#[cfg(test)]
+mod edge_io_tests;
+#[cfg(test)]
+mod entry_log_tests;
 #[cfg(test)]
 mod every_form;
 #[cfg(test)]
 mod form_tests;
 #[cfg(test)]
-mod mutation_tests;
+mod load_maker_tests;
 #[cfg(test)]
-mod nano_tests;
+mod mutation_tests;
 #[cfg(test)]
 mod number_tests;
 #[cfg(test)]
 mod print_tests;
-#[cfg(test)]
-mod procs_tests;
 #[cfg(test)]
 mod tests;

@@ -8,8 +8,6 @@ mod meeting;
 mod pass;
 mod steps;
 mod taking;
-#[cfg(test)]
-mod tests;
 mod turn;
 mod turns;
 mod view;

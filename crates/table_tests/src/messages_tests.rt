@@ -1,0 +1,93 @@
+//! Worked examples: two servers, a session with two slots, and sessions of the pool.
+use messages::{Accepted, Finished, Messages};
+use state_rows::Way;
+use std::test::Fail;
+use sym_base::{Arg, MsgNo, ObjNo, Slots};
+
+const ARGS: [Arg; 4] = [
+    Arg::Number(7),
+    Arg::Number(0),
+    Arg::Number(0),
+    Arg::Number(0),
+];
+
+#[tactic(auto, unfolding(state_rows::specs::MessageRows::most_messages))]
+#[test]
+fn messages_are_taken_in_order_and_finished_in_any(rt: HostRuntime) -> Result<(), Fail> {
+    let (files, fonts) = (ObjNo(3), ObjNo(4));
+    let (s, other) = (ObjNo(5), ObjNo(6));
+    let client = ObjNo(2);
+    let mut table = Messages::new(rt.alloc(), 7, 1)?;
+    let connected = table.accept(s, files, client, Slots::Own(2), -1, ARGS, Way::Sync);
+    assert_eq!(rt; connected, Accepted::Message(MsgNo(1)));
+    table.accept(other, fonts, client, Slots::Pool, 3, ARGS, Way::Async(0));
+    table.accept(s, files, client, Slots::Own(2), 4, ARGS, Way::Async(1));
+    assert_eq!(rt; table.take_next(files), Some(MsgNo(1)));
+    assert_eq!(rt; table.take_next(files), Some(MsgNo(3)));
+    assert_eq!(rt; table.take_next(files), None);
+    assert!(rt; table.taken(MsgNo(3)));
+    assert_eq!(rt; table.taken(MsgNo(2)), false);
+    let finished = Finished {
+        session: s,
+        client,
+        way: Way::Async(1),
+    };
+    assert_eq!(rt; table.finish(MsgNo(3)), finished);
+    assert_eq!(rt; table.first_of(files), Some(MsgNo(1)));
+    table.finish(MsgNo(1));
+    assert_eq!(rt; table.first_of(files), None);
+    assert!(rt; table.row(MsgNo(1)).is_none());
+    assert_eq!(rt; table.first_of(fonts), Some(MsgNo(2)));
+    Ok(())
+}
+
+#[tactic(auto, unfolding(state_rows::specs::MessageRows::most_messages))]
+#[test]
+fn a_sender_is_told_busy_when_all_slots_are_used(rt: HostRuntime) -> Result<(), Fail> {
+    let (files, s, client) = (ObjNo(3), ObjNo(5), ObjNo(2));
+    let mut table = Messages::new(rt.alloc(), 7, 1)?;
+    table.accept(s, files, client, Slots::Own(2), 1, ARGS, Way::Async(0));
+    table.accept(s, files, client, Slots::Own(2), 2, ARGS, Way::Sync);
+    assert_eq!(rt; table.is_full(s, Slots::Own(2)), false);
+    table.accept(s, files, client, Slots::Own(2), 3, ARGS, Way::Async(1));
+    assert!(rt; table.is_full(s, Slots::Own(2)));
+    let busy = Accepted::Busy { used: 2, slots: 2 };
+    let third = table.accept(s, files, client, Slots::Own(2), 4, ARGS, Way::Async(2));
+    assert_eq!(rt; third, busy);
+    let closed = table.accept(s, files, client, Slots::Own(2), -2, ARGS, Way::Disconnect);
+    assert_eq!(rt; closed, Accepted::Message(MsgNo(4)));
+    table.accept(ObjNo(4), files, client, Slots::Pool, 1, ARGS, Way::Async(3));
+    let of_pool = table.accept(ObjNo(6), files, client, Slots::Pool, 1, ARGS, Way::Async(4));
+    assert_eq!(rt; of_pool, Accepted::Busy { used: 1, slots: 1 });
+    Ok(())
+}
+
+#[tactic(auto, unfolding(state_rows::specs::MessageRows::most_messages))]
+#[test]
+fn a_descriptor_gets_another_length(rt: HostRuntime) -> Result<(), Fail> {
+    let mut args = ARGS;
+    args[2] = Arg::Descriptor {
+        offset: 64,
+        length: 3,
+        max: 20,
+    };
+    let mut table = Messages::new(rt.alloc(), 4, 0)?;
+    table.accept(
+        ObjNo(3),
+        ObjNo(1),
+        ObjNo(2),
+        Slots::Own(1),
+        1,
+        args,
+        Way::Sync,
+    );
+    table.set_length(MsgNo(1), 2, 20);
+    let row = table.row(MsgNo(1)).unwrap();
+    let longer = Arg::Descriptor {
+        offset: 64,
+        length: 20,
+        max: 20,
+    };
+    assert!(rt; row.args == [ARGS[0], ARGS[1], longer, ARGS[3]]);
+    Ok(())
+}
