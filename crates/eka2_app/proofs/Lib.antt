@@ -1,5 +1,3 @@
-mod CallersKeep
-mod ThreePasses
 pub mod Ended
 pub mod EndedCheck
 pub mod OneReading

@@ -1,4 +1,3 @@
-pub mod Callers
 pub mod Outcomes
 pub mod Readings
 pub mod StatusNumber

@@ -1,16 +1,18 @@
-//! Runs of the command that checks histories, over memory.
-use crate::death_tests::{DEAD_THREAD_HISTORY, DEAD_THREAD_SCRIPT};
+//! Runs of the command that checks histories.
+use crate::fault_tests::expect_each_fault;
+use crate::gate::OpenGate;
+use crate::run_tests::{UNKNOWN_WORD, UNKNOWN_WORD_SCRIPT};
+use crate::runs::{Case, STEADY, WELL, outcome_of};
 use crate::status::Status;
-use crate::tests::{HISTORY, SCRIPT, UNKNOWN_WORD_SCRIPT, expect_run, sink_of, words_of};
-use edge_io::MemSource;
 use std::alloc::{AllocError, Global};
 use std::process::Abort;
 use std::sync::Wait;
 use std::test::Fail;
 use std::thread::Threads;
+use worked_examples::{DEAD_THREAD_HISTORY, DEAD_THREAD_SCRIPT, HANDLES_HISTORY, HANDLES_SCRIPT};
 
 /// The history of the script of two handles, of which the third line tells another place of the table.
-pub const CHANGED_HISTORY: &str = "\
+const CHANGED_HISTORY: &str = "\
 1 t3 create.do +p2.0:4 = 65536
 2 t3 dup.look +tmp3:4
 3 t3 dup.do +p2.2:4 = 65538
@@ -55,11 +57,11 @@ objects
 end
 ";
 
-/// A source of a script and a history behind it.
-fn source_of(alloc: Global, script: &str, history: &str) -> Result<MemSource, AllocError> {
-    let mut bytes = Vec::from_slice(alloc, script.as_bytes())?;
-    bytes.extend_from_slice(history.as_bytes())?;
-    Ok(MemSource::new(bytes, 100, Vec::new(alloc)))
+/// The text of a script and of a history behind it.
+fn joined(alloc: Global, script: &str, history: &str) -> Result<String, AllocError> {
+    let mut text = String::from_str(alloc, script)?;
+    text.push_str(history)?;
+    Ok(text)
 }
 
 /// Checks a history of a script, and compares the status and what was written.
@@ -71,64 +73,83 @@ fn expect_check<R: Abort + Threads + Wait + Sync>(
     status: Status,
     written: &str,
 ) -> Result<(), Fail> {
-    let words = words_of(alloc, &["check"])?;
-    let mut source = source_of(alloc, script, history)?;
-    let mut sink = sink_of(alloc, &[])?;
-    expect_run(
-        rt,
-        alloc,
-        words.as_slice(),
-        &mut source,
-        &mut sink,
-        status,
-        written,
-    );
+    let text = joined(alloc, script, history)?;
+    let outcome = outcome_of(rt, alloc, &["check"], text.as_bytes(), STEADY, &OpenGate)?;
+    assert_eq!(rt; outcome.status, status);
+    assert_eq!(rt; outcome.sink.bytes(), written.as_bytes());
     Ok(())
 }
 
+/// Scripts with legal histories, and what is written.
+const LEGAL: [(&str, &str, &str); 3] = [
+    (HANDLES_SCRIPT, HANDLES_HISTORY, "legal 16\n"),
+    (DEAD_THREAD_SCRIPT, DEAD_THREAD_HISTORY, "legal 21\n"),
+    (KEPT_SCRIPT, KEPT_HISTORY, "legal 6\n"),
+];
+
 #[test]
 fn a_legal_history_is_counted(rt: HostRuntime) -> Result<(), Fail> {
-    let alloc = rt.alloc();
-    expect_check(&rt, alloc, SCRIPT, HISTORY, Status::Done, "legal 16\n")?;
-    expect_check(
-        &rt,
-        alloc,
-        DEAD_THREAD_SCRIPT,
-        DEAD_THREAD_HISTORY,
-        Status::Done,
-        "legal 21\n",
-    )?;
-    expect_check(
-        &rt,
-        alloc,
-        KEPT_SCRIPT,
-        KEPT_HISTORY,
-        Status::Done,
-        "legal 6\n",
-    )
+    for (script, history, written) in LEGAL {
+        expect_check(&rt, rt.alloc(), script, history, Status::Done, written)?;
+    }
+    Ok(())
 }
 
 #[test]
 fn another_history_has_a_first_bad_line(rt: HostRuntime) -> Result<(), Fail> {
     let alloc = rt.alloc();
-    expect_check(
-        &rt,
-        alloc,
-        SCRIPT,
+    let script = HANDLES_SCRIPT;
+    let bad = Status::Illegal;
+    expect_check(&rt, alloc, script, CHANGED_HISTORY, bad, "illegal 3\n")?;
+    let unended = HANDLES_HISTORY.strip_suffix("end\n").unwrap_or("");
+    expect_check(&rt, alloc, script, unended, bad, "illegal 20\n")?;
+    let unfed = HANDLES_HISTORY.strip_suffix("\n").unwrap_or("");
+    expect_check(&rt, alloc, script, unfed, bad, "illegal 20\n")
+}
+
+/// Checks a text, a script and a history behind it, over each failing read and write, and over short reads and writes.
+fn expect_checked<'a, R: Abort + Threads + Wait + Sync>(
+    rt: &R,
+    alloc: Global,
+    text: &'a str,
+    status: Status,
+    written: &'a str,
+) -> Result<(), Fail> {
+    let case = Case {
+        words: &["check"],
+        script: text,
+        status,
+        written,
+        ..WELL
+    };
+    expect_each_fault(rt, alloc, &case)
+}
+
+/// A script with a history, how its check ends, and what is written.
+type Check = (&'static str, &'static str, Status, &'static str);
+
+/// A legal history, an illegal one, and one of a script that is refused.
+const CHECKS: [Check; 3] = [
+    (HANDLES_SCRIPT, HANDLES_HISTORY, Status::Done, "legal 16\n"),
+    (
+        HANDLES_SCRIPT,
         CHANGED_HISTORY,
         Status::Illegal,
         "illegal 3\n",
-    )?;
-    let unended = HISTORY.strip_suffix("end\n").unwrap_or("");
-    expect_check(&rt, alloc, SCRIPT, unended, Status::Illegal, "illegal 20\n")?;
-    let unfed = HISTORY.strip_suffix("\n").unwrap_or("");
-    expect_check(&rt, alloc, SCRIPT, unfed, Status::Illegal, "illegal 20\n")?;
-    expect_check(
-        &rt,
-        alloc,
+    ),
+    (
         UNKNOWN_WORD_SCRIPT,
-        HISTORY,
+        HANDLES_HISTORY,
         Status::Refused,
-        "refused line 7 word\n",
-    )
+        UNKNOWN_WORD,
+    ),
+];
+
+#[test]
+fn checks_meet_each_fault(rt: HostRuntime) -> Result<(), Fail> {
+    for (script, history, status, written) in CHECKS {
+        let text = joined(rt.alloc(), script, history)?;
+        expect_checked(&rt, rt.alloc(), text.as_str(), status, written)?;
+    }
+    Ok(())
 }

@@ -1,73 +1,35 @@
 //! Each command over sources that give few bytes a read and sinks that take few a write, and over the failure of each
 //! read and of each write.
-use crate::command_tests::{BRIEFLY, LOAD, MAKE};
-use crate::gate::OpenGate;
+use crate::made_tests::{LOAD, MAKE};
+use crate::run_tests::{BRIEFLY, REFUSED};
+use crate::runs::{Case, Ends, WELL, expect_at};
+use crate::sharing_tests::{ONE_WORKER, REFUSED_WORK};
 use crate::status::Status;
-use crate::tests::{Case, UNKNOWN_WORD_SCRIPT, WELL, words_of};
-use crate::top::eka2_main;
-use edge_io::{MemSink, MemSource};
 use std::alloc::Global;
 use std::process::Abort;
 use std::sync::Wait;
 use std::test::Fail;
 use std::thread::Threads;
 
-/// The most bytes that a read gives and that a write takes, and the numbers of the read and the write that fail, from
-/// 1: none is 0.
-#[derive(Clone, Copy)]
-struct Ends {
-    read: usize,
-    write: usize,
-    failing_read: u32,
-    failing_write: u32,
-}
-
 /// Reads of 16 bytes, and writes of whole pieces, none of which fails.
 const STEADY: Ends = Ends {
     read: 16,
-    write: 600,
-    failing_read: 0,
-    failing_write: 0,
+    ..crate::runs::STEADY
 };
 
-/// A script that is refused.
-const REFUSED: Case<'static> = Case {
-    script: UNKNOWN_WORD_SCRIPT,
-    status: Status::Refused,
-    written: "refused line 7 word\n",
-    ..WELL
-};
+/// One case of each way in which a command that reads writes.
+const READING: [Case<'static>; 5] = [WELL, BRIEFLY, REFUSED, ONE_WORKER, REFUSED_WORK];
 
-/// One case of each way in which a command writes.
-const EACH_COMMAND: [Case<'static>; 5] = [WELL, BRIEFLY, MAKE, LOAD, REFUSED];
-
-/// Runs a case's words over its script with such ends, and compares the status and what was written.
-fn expect_at<R: Abort + Threads + Wait + Sync>(
-    rt: &R,
-    alloc: Global,
-    case: &Case<'_>,
-    ends: Ends,
-    status: Status,
-    written: &[u8],
-) -> Result<(), Fail> {
-    let words = words_of(alloc, case.words)?;
-    let bytes = Vec::from_slice(alloc, case.script.as_bytes())?;
-    let failing_reads = Vec::from_slice(alloc, &[ends.failing_read])?;
-    let failing_writes = Vec::from_slice(alloc, &[ends.failing_write])?;
-    let mut source = MemSource::new(bytes, ends.read.max(1), failing_reads);
-    let mut sink = MemSink::new(alloc, 2000, ends.write.max(1), failing_writes)?;
-    let found = eka2_main(
-        rt,
-        alloc,
-        words.as_slice(),
-        &mut source,
-        &mut sink,
-        &OpenGate,
-    );
-    assert_eq!(rt; found, status);
-    assert_eq!(rt; sink.bytes(), written);
-    Ok(())
-}
+/// One case of each way in which a command writes. Those of `check` are others'.
+const EACH_COMMAND: [Case<'static>; 7] = [
+    WELL,
+    BRIEFLY,
+    MAKE,
+    LOAD,
+    REFUSED,
+    ONE_WORKER,
+    REFUSED_WORK,
+];
 
 /// How many lines a text has.
 fn lines_of(text: &str) -> u32 {
@@ -101,7 +63,7 @@ fn reads_of(text: &str) -> u32 {
 }
 
 /// After the failure of any read nothing was written. One more isn't made.
-pub fn expect_failing_reads<R: Abort + Threads + Wait + Sync>(
+fn expect_failing_reads<R: Abort + Threads + Wait + Sync>(
     rt: &R,
     alloc: Global,
     case: &Case<'_>,
@@ -123,7 +85,7 @@ pub fn expect_failing_reads<R: Abort + Threads + Wait + Sync>(
 }
 
 /// After the failure of any write the lines before it were written. One more isn't made.
-pub fn expect_failing_writes<R: Abort + Threads + Wait + Sync>(
+fn expect_failing_writes<R: Abort + Threads + Wait + Sync>(
     rt: &R,
     alloc: Global,
     case: &Case<'_>,
@@ -146,7 +108,7 @@ pub fn expect_failing_writes<R: Abort + Threads + Wait + Sync>(
 }
 
 /// How many bytes a call moves makes no difference.
-pub fn expect_any_step<R: Abort + Threads + Wait + Sync>(
+fn expect_any_step<R: Abort + Threads + Wait + Sync>(
     rt: &R,
     alloc: Global,
     case: &Case<'_>,
@@ -164,7 +126,7 @@ pub fn expect_any_step<R: Abort + Threads + Wait + Sync>(
 }
 
 /// Where a sink takes one byte a call, the failure of a call leaves exactly the bytes before it.
-pub fn expect_failing_bytes<R: Abort + Threads + Wait + Sync>(
+fn expect_failing_bytes<R: Abort + Threads + Wait + Sync>(
     rt: &R,
     alloc: Global,
     case: &Case<'_>,
@@ -182,9 +144,21 @@ pub fn expect_failing_bytes<R: Abort + Threads + Wait + Sync>(
     Ok(())
 }
 
+/// A case over each failing read and write, and over short reads and writes.
+pub fn expect_each_fault<R: Abort + Threads + Wait + Sync>(
+    rt: &R,
+    alloc: Global,
+    case: &Case<'_>,
+) -> Result<(), Fail> {
+    expect_failing_reads(rt, alloc, case)?;
+    expect_failing_writes(rt, alloc, case)?;
+    expect_failing_bytes(rt, alloc, case)?;
+    expect_any_step(rt, alloc, case)
+}
+
 #[test]
 fn each_read_fails(rt: HostRuntime) -> Result<(), Fail> {
-    for case in [WELL, BRIEFLY, REFUSED] {
+    for case in READING {
         expect_failing_reads(&rt, rt.alloc(), &case)?;
     }
     Ok(())
@@ -208,5 +182,8 @@ fn reads_and_writes_are_short(rt: HostRuntime) -> Result<(), Fail> {
 
 #[test]
 fn each_byte_fails(rt: HostRuntime) -> Result<(), Fail> {
-    expect_failing_bytes(&rt, rt.alloc(), &WELL)
+    for case in [WELL, ONE_WORKER] {
+        expect_failing_bytes(&rt, rt.alloc(), &case)?;
+    }
+    Ok(())
 }

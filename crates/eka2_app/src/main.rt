@@ -3,53 +3,21 @@
 #![tactic(auto)]
 
 #[cfg(test)]
-mod again_tests;
-#[cfg(test)]
-mod both_ways_tests;
-#[cfg(test)]
-mod caller_tests;
-#[cfg(test)]
-mod callers;
-#[cfg(test)]
 mod check_tests;
 #[cfg(test)]
-mod command_tests;
-#[cfg(test)]
-mod compared;
-#[cfg(test)]
-mod copy_tests;
-#[cfg(test)]
-mod death_tests;
-#[cfg(test)]
 mod fault_tests;
-#[cfg(test)]
-mod further_fault_tests;
 mod gate;
 #[cfg(test)]
-mod judged_tests;
+mod made_tests;
 #[cfg(test)]
-mod judging;
+mod run_tests;
 #[cfg(test)]
-mod late_tests;
-#[cfg(test)]
-mod server_tests;
-#[cfg(test)]
-mod shared_runs;
-#[cfg(test)]
-mod shared_tests;
-#[cfg(test)]
-mod shared_texts;
+mod runs;
 #[cfg(test)]
 mod sharing_tests;
 mod status;
 #[cfg(test)]
-mod storm_tables;
-#[cfg(test)]
 mod storm_tests;
-#[cfg(test)]
-mod tests;
-#[cfg(test)]
-mod thread_tests;
 mod top;
 mod words;
 

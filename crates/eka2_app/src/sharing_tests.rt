@@ -1,36 +1,12 @@
-//! Runs of the command `share`: the bytes of one worker, histories of several judged by the plain machine, and workers that
-//! are beside one another.
-use crate::copy_tests::{LOAD_LEFT, LOAD_SCRIPT};
+//! Runs of the command `share`: the bytes of one worker, loads, and workers that are beside one another.
 use crate::gate::OpenGate;
+use crate::run_tests::{REFUSED, ROOMY};
+use crate::runs::{Case, WELL, expect_cases, expect_usage, outcome_of};
 use crate::status::Status;
-use crate::tests::{Case, WELL, expect_case, words_of};
-use crate::top::eka2_main;
-use edge_io::{Gate, MemSink, MemSource};
-use std::alloc::Global;
-use std::process::Abort;
-use std::sync::Wait;
+use edge_io::Gate;
 use std::sync::atomic::{AtomicBool, AtomicU32, Ordering};
 use std::test::Fail;
-use std::thread::Threads;
-
-/// Two threads that find one object, in two slots.
-pub const FINDS_SCRIPT: &str =
-    "eka2 1\nprocess p\nthread a 10\nopen process p r0\nthread b 10\nopen process p r0\nschedule\ngo 2\nend\n";
-
-/// What one worker makes of it: it opens what it found before it draws again.
-const FINDS_HISTORY: &str = "\
-1 t3 open.seek seek:2
-2 t3 open.return +tmp3:2
-3 t4 open.seek seek:2
-4 t4 open.return +tmp4:2
-objects
-0 process kernel 1
-1 thread supervisor 1 live
-2 process p 4
-3 thread a 1 live
-4 thread b 1 live
-end
-";
+use worked_examples::{FINDS_HISTORY, FINDS_SCRIPT, LOAD_LEFT, LOAD_SCRIPT};
 
 /// The case of one worker.
 pub const ONE_WORKER: Case<'static> = Case {
@@ -38,20 +14,30 @@ pub const ONE_WORKER: Case<'static> = Case {
     ..WELL
 };
 
-#[test]
-fn one_worker_makes_the_run(rt: HostRuntime) -> Result<(), Fail> {
-    expect_case(&rt, rt.alloc(), &ONE_WORKER)?;
-    let joined = Case {
+/// A refused script for one worker.
+pub const REFUSED_WORK: Case<'static> = Case {
+    words: &["share", "--workers", "1"],
+    ..REFUSED
+};
+
+/// What one worker makes: that of `run`, with its number in either way; and of two threads that find one object it makes what it
+/// opens before it draws again.
+const CASES: [Case<'static>; 3] = [
+    ONE_WORKER,
+    Case {
         words: &["share", "--workers=1"],
-        ..ONE_WORKER
-    };
-    expect_case(&rt, rt.alloc(), &joined)?;
-    let finds = Case {
+        ..WELL
+    },
+    Case {
         script: FINDS_SCRIPT,
         written: FINDS_HISTORY,
         ..ONE_WORKER
-    };
-    expect_case(&rt, rt.alloc(), &finds)
+    },
+];
+
+#[test]
+fn one_worker_makes_the_run(rt: HostRuntime) -> Result<(), Fail> {
+    expect_cases(&rt, rt.alloc(), &CASES)
 }
 
 #[test]
@@ -65,55 +51,24 @@ fn workers_are_one_to_eight(rt: HostRuntime) -> Result<(), Fail> {
         ["run", "--workers", "1"],
     ];
     for words in wrong {
-        let usage = Case {
-            words: &words,
-            status: Status::Usage,
-            written: "",
-            ..WELL
-        };
-        expect_case(&rt, rt.alloc(), &usage)?;
+        expect_usage(&rt, rt.alloc(), &words)?;
     }
     for word in ["--workers=0", "--workers=9", "--workers=01", "--workers"] {
-        let usage = Case {
-            words: &["share", word],
-            status: Status::Usage,
-            written: "",
-            ..WELL
-        };
-        expect_case(&rt, rt.alloc(), &usage)?;
+        expect_usage(&rt, rt.alloc(), &["share", word])?;
     }
     Ok(())
 }
 
-/// Runs `share` with these words on a script, behind a gate, and gives what was written.
-fn shared<R: Threads + Wait + Sync + Abort, G: Gate + Sync>(
-    rt: &R,
-    alloc: Global,
-    words: &[&str],
-    script: &str,
-    gate: &G,
-) -> Result<MemSink, Fail> {
-    let words = words_of(alloc, words)?;
-    let bytes = Vec::from_slice(alloc, script.as_bytes())?;
-    let mut source = MemSource::new(bytes, 100, Vec::new(alloc));
-    let mut sink = MemSink::new(alloc, 200_000, 200_000, Vec::new(alloc))?;
-    let found = eka2_main(rt, alloc, words.as_slice(), &mut source, &mut sink, gate);
-    assert_eq!(rt; found, Status::Done);
-    Ok(sink)
-}
-
 #[test]
-fn one_worker_brings_three_clients_home(rt: HostRuntime) -> Result<(), Fail> {
+fn workers_bring_three_clients_home(rt: HostRuntime) -> Result<(), Fail> {
+    let bytes = LOAD_SCRIPT.as_bytes();
     let words = ["share", "--workers", "1"];
-    let sink = shared(&rt, rt.alloc(), &words, LOAD_SCRIPT, &OpenGate)?;
-    assert!(rt; sink.bytes().ends_with(LOAD_LEFT));
-    Ok(())
-}
-
-#[test]
-fn four_workers_do_all_that_the_clients_ask(rt: HostRuntime) -> Result<(), Fail> {
+    let one = outcome_of(&rt, rt.alloc(), &words, bytes, ROOMY, &OpenGate)?;
+    assert_eq!(rt; one.status, Status::Done);
+    assert!(rt; one.sink.bytes().ends_with(LOAD_LEFT));
     let words = ["share", "--workers", "4"];
-    let _sink = shared(&rt, rt.alloc(), &words, LOAD_SCRIPT, &OpenGate)?;
+    let four = outcome_of(&rt, rt.alloc(), &words, bytes, ROOMY, &OpenGate)?;
+    assert_eq!(rt; four.status, Status::Done);
     Ok(())
 }
 
@@ -148,7 +103,9 @@ fn two_workers_are_beside_one_another(rt: HostRuntime) -> Result<(), Fail> {
         met: AtomicBool::new(false),
     };
     let words = ["share", "--workers", "2"];
-    let _sink = shared(&rt, rt.alloc(), &words, FINDS_SCRIPT, &gate)?;
+    let bytes = FINDS_SCRIPT.as_bytes();
+    let outcome = outcome_of(&rt, rt.alloc(), &words, bytes, ROOMY, &gate)?;
+    assert_eq!(rt; outcome.status, Status::Done);
     assert!(rt; gate.met.load(Ordering::SeqCst));
     Ok(())
 }

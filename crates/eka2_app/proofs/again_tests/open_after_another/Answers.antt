@@ -1,4 +1,0 @@
-use Rattle.eka2_app.proofs.again_tests.open_after_another.Goals as goal
-
-pub give_back-requires-clause-opened : goal.give_back-requires-clause-opened
-give_back-requires-clause-opened g c = c.opened-ticket.ensures _ _ _ c.in-Some.ensures.found

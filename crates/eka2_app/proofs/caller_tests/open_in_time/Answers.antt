@@ -1,4 +1,0 @@
-use Rattle.eka2_app.proofs.caller_tests.open_in_time.Goals as goal
-
-pub give_back-requires-clause-opened : goal.give_back-requires-clause-opened
-give_back-requires-clause-opened g c = c.opened-ticket.ensures _ _ _ c.in-Some.ensures.found

@@ -1,0 +1,4 @@
+use Rattle.sharing_tests.proofs.caller_tests.open_in_time.Goals as goal
+
+pub give_back-requires-clause-opened : goal.give_back-requires-clause-opened
+give_back-requires-clause-opened g c = c.opened-ticket.ensures _ _ _ c.in-Some.ensures.found
