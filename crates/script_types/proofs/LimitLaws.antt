@@ -63,6 +63,11 @@ in_form f h =
     let parts = both (are_values (operands_of f.keyword f.second) f.values) (is_body (body_of f.keyword f.second) f.body) h in
     (are_in (operands_of f.keyword f.second) f.values parts.0, parts.1)
 
+-- an instruction in range
+pub instr_in : (what : Instr) → is_source_line (line.Instr what) ≡ true
+    → AreIn (operands_of (instr_form what).keyword (instr_form what).second) (instr_form what).values
+instr_in what h = (in_form (instr_form what) h).0
+
 pub number_in : (low high n : ℕ) → (nat_le low n && nat_le n high) ≡ true → (low ≤ n) × (n ≤ high)
 number_in low high n h = let parts = both (nat_le low n) (nat_le n high) h in (leb-true low n parts.0, leb-true n high parts.1)
 
@@ -108,7 +113,7 @@ registers_small (what ∷ operands) values eight are =
 registers : (what : Instr) → is_source_line (line.Instr what) ≡ true → HasRegisters what
 registers what h =
     let f = instr_form what in
-    registers_small (operands_of f.keyword f.second) f.values (form_eighth f.keyword f.second) (in_form f h).0
+    registers_small (operands_of f.keyword f.second) f.values (form_eighth f.keyword f.second) (instr_in what h)
 
 -- a thread of a script with so many processes
 pub record IsHeld (processes : ℕ) (thread : ThreadDecl) : Type 0 where
