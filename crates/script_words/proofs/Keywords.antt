@@ -41,10 +41,17 @@ pub nothing_begins : (word : List ℕ) → length word < 1 → None ≡ first_of
 nothing_begins word none = ap (first_of keyword_text line_keywords) (sym (is_empty word none))
 
 -- none begins with another byte
-none_of : (first : ℕ) → (first == 100) ≡ false → (first == 101) ≡ false → (first == 102) ≡ false → (first == 103) ≡ false → (first == 105) ≡ false → (first == 107) ≡ false → (first == 112) ≡ false → (first == 115) ≡ false → (first == 116) ≡ false
+none_of : (first : ℕ) → (first == 100) ≡ false → (first == 101) ≡ false → (first == 102) ≡ false
+    → (first == 103) ≡ false → (first == 105) ≡ false → (first == 107) ≡ false → (first == 112) ≡ false
+    → (first == 115) ≡ false → (first == 116) ≡ false
     → (rest : List ℕ) → None ≡ first_of keyword_text line_keywords (first ∷ rest)
-none_of first not_d not_e not_f not_g not_i not_k not_p not_s not_t rest = rw (not_d, not_e, not_f, not_g, not_i, not_k, not_p, not_s, not_t) refl
+none_of first not_d not_e not_f not_g not_i not_k not_p not_s not_t rest =
+    rw (not_d, not_e, not_f, not_g, not_i, not_k, not_p, not_s, not_t) refl
 
-pub none_begins : (first : ℕ) (word : List ℕ) → (first == 100) ≡ false → (first == 101) ≡ false → (first == 102) ≡ false → (first == 103) ≡ false → (first == 105) ≡ false → (first == 107) ≡ false → (first == 112) ≡ false → (first == 115) ≡ false → (first == 116) ≡ false
+pub none_begins : (first : ℕ) (word : List ℕ) → (first == 100) ≡ false → (first == 101) ≡ false → (first == 102) ≡ false
+    → (first == 103) ≡ false → (first == 105) ≡ false → (first == 107) ≡ false → (first == 112) ≡ false
+    → (first == 115) ≡ false → (first == 116) ≡ false
     → (rest : List ℕ) → word ≡ first ∷ rest → None ≡ first_of keyword_text line_keywords word
-none_begins first word not_d not_e not_f not_g not_i not_k not_p not_s not_t rest begins = none_of first not_d not_e not_f not_g not_i not_k not_p not_s not_t rest ∙ ap (first_of keyword_text line_keywords) (sym begins)
+none_begins first word not_d not_e not_f not_g not_i not_k not_p not_s not_t rest begins =
+    none_of first not_d not_e not_f not_g not_i not_k not_p not_s not_t rest
+    ∙ ap (first_of keyword_text line_keywords) (sym begins)

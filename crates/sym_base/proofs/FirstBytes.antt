@@ -35,13 +35,19 @@ unfolding word_of word_text
 nothing_begins text none = ap (first_of word_text all_words) (sym (is_empty text none))
 
 -- none begins with another byte
-none_of : (first : ℕ) → (first == 99) ≡ false → (first == 100) ≡ false → (first == 101) ≡ false → (first == 102) ≡ false → (first == 107) ≡ false → (first == 108) ≡ false → (first == 111) ≡ false → (first == 112) ≡ false → (first == 113) ≡ false → (first == 114) ≡ false → (first == 115) ≡ false → (first == 116) ≡ false → (first == 117) ≡ false → (first == 119) ≡ false
+none_of : (first : ℕ) → (first == 99) ≡ false → (first == 100) ≡ false → (first == 101) ≡ false → (first == 102) ≡ false
+    → (first == 107) ≡ false → (first == 108) ≡ false → (first == 111) ≡ false → (first == 112) ≡ false
+    → (first == 113) ≡ false → (first == 114) ≡ false → (first == 115) ≡ false → (first == 116) ≡ false
+    → (first == 117) ≡ false → (first == 119) ≡ false
     → (rest : List ℕ) → None ≡ first_of word_text all_words (first ∷ rest)
 unfolding word_text
 none_of first not_c not_d not_e not_f not_k not_l not_o not_p not_q not_r not_s not_t not_u not_w rest =
     rw (not_c, not_d, not_e, not_f, not_k, not_l, not_o, not_p, not_q, not_r, not_s, not_t, not_u, not_w) refl
 
-pub none_begins : (first : ℕ) (text : List ℕ) → (first == 99) ≡ false → (first == 100) ≡ false → (first == 101) ≡ false → (first == 102) ≡ false → (first == 107) ≡ false → (first == 108) ≡ false → (first == 111) ≡ false → (first == 112) ≡ false → (first == 113) ≡ false → (first == 114) ≡ false → (first == 115) ≡ false → (first == 116) ≡ false → (first == 117) ≡ false → (first == 119) ≡ false
+pub none_begins : (first : ℕ) (text : List ℕ) → (first == 99) ≡ false → (first == 100) ≡ false → (first == 101) ≡ false
+    → (first == 102) ≡ false → (first == 107) ≡ false → (first == 108) ≡ false → (first == 111) ≡ false
+    → (first == 112) ≡ false → (first == 113) ≡ false → (first == 114) ≡ false → (first == 115) ≡ false
+    → (first == 116) ≡ false → (first == 117) ≡ false → (first == 119) ≡ false
     → (rest : List ℕ) → text ≡ first ∷ rest → None ≡ word_of text
 unfolding word_of
 none_begins first text not_c not_d not_e not_f not_k not_l not_o not_p not_q not_r not_s not_t not_u not_w rest begins =

@@ -35,4 +35,6 @@ returns-in-116 c = at_byte keyword_text line_keywords 116 (key.Thread ∷ key.Ti
 
 pub returns-in_default : goal.returns-in_default
 returns-in_default c =
-    none_begins c.args.first c.args.word.now (search (rules, tests)) (search (rules, tests)) (search (rules, tests)) (search (rules, tests)) (search (rules, tests)) (search (rules, tests)) (search (rules, tests)) (search (rules, tests)) (search (rules, tests))
+    none_begins c.args.first c.args.word.now (search (rules, tests)) (search (rules, tests)) (search (rules, tests))
+    (search (rules, tests)) (search (rules, tests)) (search (rules, tests)) (search (rules, tests))
+    (search (rules, tests)) (search (rules, tests))

@@ -62,4 +62,7 @@ returns-in-119 c = at_byte word_text all_words 119 (words_with 119) c.in-119.is 
 
 pub returns-in_default : goal.returns-in_default
 returns-in_default c =
-    none_begins c.args.first c.args.text.now (search (rules, tests)) (search (rules, tests)) (search (rules, tests)) (search (rules, tests)) (search (rules, tests)) (search (rules, tests)) (search (rules, tests)) (search (rules, tests)) (search (rules, tests)) (search (rules, tests)) (search (rules, tests)) (search (rules, tests)) (search (rules, tests)) (search (rules, tests))
+    none_begins c.args.first c.args.text.now (search (rules, tests)) (search (rules, tests)) (search (rules, tests))
+    (search (rules, tests)) (search (rules, tests)) (search (rules, tests)) (search (rules, tests))
+    (search (rules, tests)) (search (rules, tests)) (search (rules, tests)) (search (rules, tests))
+    (search (rules, tests)) (search (rules, tests)) (search (rules, tests))
