@@ -23,7 +23,7 @@ use Rattle.machine.specs.declared.state.State.{State}
 use Rattle.machine.specs.declared.task.Task.{Task}
 use Rattle.machine_safe.specs.DoomedAble.{AreDoomedAble}
 use Rattle.machine_safe.proofs.LeftNothing.{steady-after}
-use Rattle.machine_safe.proofs.Serving.Freed.{AreFreed}
+use Rattle.machine_safe.proofs.Serving.DoomedWaits.{AreFreed}
 
 -- a doomed thread has something to do
 returned-some : (b : Bool) (at : Option Instr) (other : Option Task) → is_some other ≡ true → is_some (return_or b at other) ≡ true
