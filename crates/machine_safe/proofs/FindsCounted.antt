@@ -33,22 +33,22 @@ use Rattle.machine_laws.proofs.Reached.Modes.{shared-after}
 use Rattle.machine_laws.proofs.Sharing.Outs.{out-boot, out-next}
 use Rattle.machine_laws.proofs.Sharing.Told.{IsOfCloses, is_beside, next-is, told_by, total-same}
 use Rattle.machine_safe.specs.FindsAndReturns.{seek_bit, AreFindsCounted, away, finds_in, returning_bit, returns_in, times_found}
+use Rattle.std.proofs.lemmas.Bool.{and_right}
 
 -- what an action tells of finds is what its moves find
-of-seek : IsOfCloses seek_bit
+pub of-seek : IsOfCloses seek_bit
 of-seek = record { none = none }
   where
     none : (e : Effect) → is_beside e ≡ true → seek_bit e ≡ 0
     none (Seek o) beside = absurd (cc)
     none _ beside = refl
 
-seek-told : (m : Move) → told_by seek_bit m ≡ finding_bit m
+pub seek-told : (m : Move) → told_by seek_bit m ≡ finding_bit m
 seek-told (move.Find u o) = refl
 seek-told (move.Pay (Close h o)) = refl
-seek-told (move.Pay (Sweep o)) = refl
 seek-told _ = refl
 
-next-finds : (script : Script) (S : State) (actor : Actor)
+pub next-finds : (script : Script) (S : State) (actor : Actor)
     → times_found (transition script S actor).outcome.effects ≡ total finding_bit (moves_of script S actor)
 next-finds script S actor = next-is seek_bit of-seek script S actor ∙ total-same (told_by seek_bit) finding_bit seek-told (moves_of script S actor)
 
@@ -82,14 +82,10 @@ bit-none : (b : Bool) → bit b ≡ 0 → b ≡ false
 bit-none true e = absurd (omega arith)
 bit-none false e = refl
 
-and-none : (shared b : Bool) → b ≡ false → (shared && b) ≡ false
-and-none true b e = e
-and-none false b e = refl
-
 none-away : (T : State) (t : ObjNo) → away T ≡ 0 → is_out T t ≡ false
 none-away T t none =
     let here = total_any returning_bit T.references.threads t.0 None refl in
-    and-none T.mode.shared (is_returning (part_of (thread_of T t))) (bit-none (is_returning (part_of (thread_of T t))) (omega arith))
+    and_right T.mode.shared (is_returning (part_of (thread_of T t))) (bit-none (is_returning (part_of (thread_of T t))) (omega arith))
 
 shared-out : (shared b : Bool) → shared ≡ true → (shared && b) ≡ false → b ≡ false
 shared-out true b e none = none

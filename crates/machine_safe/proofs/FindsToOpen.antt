@@ -1,5 +1,5 @@
 -- A find of an object that nothing opens later isn't one to open it.
-use Rattle.std.proofs.Common.{◌≡◌, ℕ, ◌<◌, ◌≤◌, List, [], ◌∷◌, ◌++◌, arith, ltb-true, refl, Bool, true, false, Option, Some, None}
+use Rattle.std.proofs.Common.{◌≡◌, ◌<◌, ◌≤◌, List, [], ◌∷◌, ◌++◌, arith, ltb-true, refl, Bool, true, false, Option, Some, None}
 use Rattle.std.specs.Prelude.{◌&&◌, is_none, if◌then◌else◌}
 use Rattle.sym_base.specs.declared.number.ObjNo.{ObjNo}
 use Rattle.entry_log.specs.declared.effect.Holder.{Holder}
@@ -45,8 +45,3 @@ and_right false b h = cc
 opens_later_adds : (actor : Actor) (first later : List Entry) (o : ObjNo) → opens_later actor first later o ≡ true → 0 < pluses (effects_of later) o
 opens_later_adds (Thread t) first later o h = opens_adds t o later (and_right (is_none (first_by t first)) (opens t o (first_by t later)) h)
 opens_later_adds _ first later o h = cc
-
--- a find whose thread opens the object later, or doesn't
-pub not_later_step : (b : Bool) (n : ℕ) → b ≡ false → (if b then n else 0) ≡ 0
-not_later_step true n e = absurd (cc)
-not_later_step false n e = refl

@@ -18,7 +18,7 @@ use Rattle.machine.specs.Boot.{boot, boot_in}
 use Rattle.machine.specs.HeldIn.{held_in}
 use Rattle.machine.specs.History.{after_from, after_in, next_by, IsLegalIn}
 use Rattle.machine.specs.Holding.{is_holder, held_after, held_after_all, FitsHolders, EachFitsHolders, held_at_boot, link_names}
-use Rattle.machine.specs.References.{same, option_names}
+use Rattle.machine.specs.References.{same}
 use Rattle.machine.specs.Rows.{thread_of}
 use Rattle.machine_laws.proofs.AtBoot.BootHolders.{held-boot}
 use Rattle.move_laws.proofs.References.Effects.{after_all-append, after_all-same}
@@ -26,7 +26,7 @@ use Rattle.move_laws.proofs.References.Same.{same_object, same_le, same_is}
 use Rattle.machine_safe.specs.CountAfter.{effects_of}
 use Rattle.machine_safe.proofs.Runs.{IsSoundRun}
 use Rattle.machine_safe.proofs.SafeHistories.{legal_run, run-holders}
-use Rattle.move_laws.proofs.Numbers.CountSmall.{holds_le}
+use Rattle.move_laws.proofs.Numbers.CountSmall.{holds_le, option_le}
 
 run-held : (script : Script) (S : State) (es : List Entry) (g : Holder) (x : ObjNo) → IsSoundRun script S es
     → held_after_all (held_in S) (effects_of es) g x ≡ held_in (after_from script S es) g x
@@ -46,7 +46,7 @@ held_as_told shared script history valid legal g x =
     sym (run-held script (boot_in shared script) history g x (legal_run shared script history valid legal))
     ∙ after_all-same (held_in (boot_in shared script)) (held_at_boot script) (effects_of history) (held-boot script (formed_is_shaped script valid)) g x
 
-same_message : (m n : MsgNo) → m.0 ≡ n.0 → m ≡ n
+pub same_message : (m n : MsgNo) → m.0 ≡ n.0 → m ≡ n
 same_message m n e = let named : ℕ → MsgNo = λ k. record { 0 = k } in ap named e
 
 -- holders that are counted as one are one
@@ -84,10 +84,6 @@ once_all : (held : Holder → ObjNo → ℕ) (es : List Effect) → EachFitsHold
     → ((g : Holder) (x : ObjNo) → held g x ≤ 1) → (g : Holder) (x : ObjNo) → held_after_all held es g x ≤ 1
 once_all held [] fits few g x = few g x
 once_all held (e ∷ es) fits few g x = once_all (held_after held e) es fits.1 (once_one held e fits.0 few) g x
-
-option_le : (o : ObjNo) (x : Option ObjNo) → option_names o x ≤ 1
-option_le o None = omega arith
-option_le o (Some x) = same_le x o
 
 link_le : (o : ObjNo) (row : Option ThreadRow) → link_names o row ≤ 1
 link_le o None = omega arith

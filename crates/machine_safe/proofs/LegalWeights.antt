@@ -1,5 +1,5 @@
 -- In every legal history the weights of doomed threads are safe.
-use Rattle.std.proofs.Common.{◌≡◌, ℕ, ◌+◌, ◌*◌, ◌<◌, ◌≤◌, Bool, List, [], ◌∷◌, ◌++◌, arith, refl, sym, ap, subst, ◌∙◌, true, false, Option, Some, None}
+use Rattle.std.proofs.Common.{◌≡◌, ◌+◌, ◌*◌, ◌<◌, ◌≤◌, Bool, List, [], ◌∷◌, ◌++◌, arith, refl, sym, ap, subst, ◌∙◌, true, false, Option, Some, None}
 use Rattle.std.specs.Prelude.{◌&&◌, if◌then◌else◌}
 use Rattle.std.proofs.lemmas.List.{append-nil, append_assoc}
 use Rattle.sym_base.specs.declared.number.ObjNo.{ObjNo}
@@ -32,7 +32,7 @@ use Rattle.machine_laws.proofs.Reached.AfterHistory.{well_formed-after}
 use Rattle.machine_safe.proofs.Deaths.Rows.{held-one, left-held, row_bit, stage_live}
 use Rattle.machine_safe.proofs.Finders.Actions.{AtFinds}
 use Rattle.machine_safe.proofs.Finders.Runs.{stands-rest}
-use Rattle.machine_safe.proofs.LegalReferences.{stands-boot}
+use Rattle.machine_safe.proofs.LegalReferences.{stands-boot, after_from-append}
 use Rattle.machine_safe.proofs.LegalServing.{book-after, handles-keeping}
 use Rattle.machine_safe.proofs.Serving.NothingLacking.{steady-keeping, steady-properly}
 use Rattle.machine_safe.specs.CountAfter.{is_by}
@@ -42,11 +42,7 @@ use Rattle.machine_safe.proofs.Weight.Entries.{Others, others-next}
 use Rattle.machine_safe.proofs.Weight.Lowers.{Lowered}
 use Rattle.machine_safe.specs.SafeWeights.{IsSafeWeights, acts_of, added_by, added_in, added_to, handles_by, is_doomed, is_doomed_row, is_dying, logons_made, weight_left}
 use Rattle.machine_safe.specs.Weight.{GetsNoMore, weight_by, weight_in, weight_of}
-
--- entries one behind the other
-after_from-append : (script : Script) (S : State) (xs ys : List Entry) → after_from script S (xs ++ ys) ≡ after_from script (after_from script S xs) ys
-after_from-append script S [] ys = refl
-after_from-append script S (x ∷ xs) ys = after_from-append script (next_by script S x) xs ys
+use Rattle.move_laws.proofs.References.Same.{if_not, if_is, if_le}
 
 cleanings-append : (xs ys : List Entry) (t : ObjNo) → cleanings (xs ++ ys) t ≡ cleanings xs t + cleanings ys t
 cleanings-append [] ys t = omega arith
@@ -192,18 +188,6 @@ weighs S t dying =
     let own : weight_in S t ≡ weight_of S t at.row = ap (weight_by S t) at.is in
     let one = ap stage_left at.doomed in omega arith
 
-left-is : (b : Bool) (n : ℕ) → b ≡ true → (if b then n else 0) ≡ n
-left-is true n e = refl
-left-is false n e = absurd (cc)
-
-left-none : (b : Bool) (n : ℕ) → b ≡ false → (if b then n else 0) ≡ 0
-left-none true n e = absurd (cc)
-left-none false n e = refl
-
-left-most : (b : Bool) (n : ℕ) → (if b then n else 0) ≤ n
-left-most true n = omega arith
-left-most false n = omega arith
-
 module _ (shared : Bool) (script : Script) (t : ObjNo) (valid : IsWellFormed script) where
   -- an entry of the middle counts among those before it
   pushed : (before : List Entry) (e : Entry) (es later : List Entry)
@@ -222,7 +206,7 @@ module _ (shared : Bool) (script : Script) (t : ObjNo) (valid : IsWellFormed scr
       let two = held-one (thread_of (boot_in shared script) t) in
       let none : row_bit stage_left (thread_of (after_in shared script before) t) ≡ 0 = omega arith in
       let same = ap (λ (l : List Entry). weight_left (after_in shared script l) t) (append-nil before) in
-      let gone = left-none (is_dying (after_in shared script before) t) (weight_in (after_in shared script before) t)
+      let gone = if_not (is_dying (after_in shared script before) t) (weight_in (after_in shared script before) t)
       (not-dying (thread_of (after_in shared script before) t) none) in
       (refl, same ∙ gone)
   over-bound before (e ∷ es) later legal cleaned =
@@ -230,7 +214,7 @@ module _ (shared : Bool) (script : Script) (t : ObjNo) (valid : IsWellFormed scr
       let none = dead.acts before e (es ++ later) (append_assoc before (e ∷ es) later) cleaned in
       let sums = cleanings-append before (e ∷ []) t in
       let rest = over-bound (before ++ e ∷ []) es later (pushed before e es later legal) (omega arith) in
-      let own = left-none (is_by t e.actor) 1 none in
+      let own = if_not (is_by t e.actor) 1 none in
       let same = ap (λ (l : List Entry). weight_left (after_in shared script l) t) (append_assoc before (e ∷ []) es) in
       ((let a = rest.0 in omega arith), (sym same ∙ rest.1))
 
@@ -240,7 +224,7 @@ module _ (shared : Bool) (script : Script) (t : ObjNo) (valid : IsWellFormed scr
       ≤ weight_in (after_in shared script before) t + added_in script (after_in shared script before) middle t
   bound-by before [] later legal dying =
       let same = ap (λ (l : List Entry). weight_left (after_in shared script l) t) (append-nil before) in
-      let most = left-most (is_dying (after_in shared script before) t) (weight_in (after_in shared script before) t) in omega arith
+      let most = if_le (is_dying (after_in shared script before) t) (weight_in (after_in shared script before) t) in omega arith
   bound-by before (e ∷ es) later legal dying =
       by (is_dying (next_by script S e) t) refl
       (λ more. bound-by (before ++ e ∷ []) es later (pushed before e es later legal) more)
@@ -342,4 +326,4 @@ legal_weights shared script history valid legal = record {
       where
         still : (T : State) (t : ObjNo) (b : Bool) → is_dying T t ≡ b → weight_left T t ≡ 0 → b ≡ false
         still T t false is none = refl
-        still T t true is none = let some = weighs T t is in let own = left-is (is_dying T t) (weight_in T t) is in absurd (omega arith)
+        still T t true is none = let some = weighs T t is in let own = if_is (is_dying T t) (weight_in T t) is in absurd (omega arith)

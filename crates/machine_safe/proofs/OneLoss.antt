@@ -40,7 +40,6 @@ of-minus = record { none = none }
 minus-told : (m : Move) → told_by minus_bit m ≡ close_bit m
 minus-told (move.Lose h o) = refl
 minus-told (move.Pay (Close h o)) = refl
-minus-told (move.Pay (Sweep o)) = refl
 minus-told _ = refl
 
 next-loses : (script : Script) (S : State) (actor : Actor) → losses (transition script S actor).outcome.effects ≡ total close_bit (moves_of script S actor)

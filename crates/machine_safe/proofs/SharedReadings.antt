@@ -79,9 +79,7 @@ left-mode keep S n (Some row ∷ rest) = ap (λ (rows : List FinalRow). final_ro
 
 may_of : (able out : Bool) → ((able && not out) || out) ≡ (able || out)
 may_of true true = refl
-may_of true false = refl
-may_of false true = refl
-may_of false false = refl
+may_of _ _ = refl
 
 same_rows : (script : Script) (keep : Bool) (S : State) → IsAlone S → HasSameRows script S (in_mode true keep S)
 same_rows script keep S alone = record {

@@ -18,9 +18,8 @@ use Rattle.machine.specs.WellFormed.{AreLives, IsAlive}
 use Rattle.move_laws.proofs.Lives.Bits.{alive_undead}
 use Rattle.move_laws.proofs.Lives.LivesMove.{LivesMove, zero_or}
 use Rattle.move_laws.proofs.References.Effects.{removals-append}
-use Rattle.move_laws.proofs.References.Same.{if_zero}
+use Rattle.move_laws.proofs.References.Same.{if_zero, if_not}
 use Rattle.machine_safe.specs.CountAfter.{count_after, effects_of, finds_to_open, first_by, opens, opens_later, since_swept}
-use Rattle.machine_safe.proofs.FindsToOpen.{not_later_step}
 use Rattle.machine_safe.proofs.Runs.{IsSoundRun, run-counts}
 
 -- nothing refers to an object whose row goes
@@ -132,6 +131,6 @@ finds-shut (x ∷ xs) later o shut =
     own : (actor : Actor) → x.actor ≡ actor → (if opens_later x.actor xs later o then finds x.effects o else 0) ≡ 0
     own actor is = elim (some (finds x.effects o)) as (λ _. (if opens_later x.actor xs later o then finds x.effects o else 0) ≡ 0) [
       | inl none ↦ if_zero (opens_later x.actor xs later o) (finds x.effects o) none
-      | inr found ↦ not_later_step (opens_later x.actor xs later o) (finds x.effects o)
+      | inr found ↦ if_not (opens_later x.actor xs later o) (finds x.effects o)
           (ap (λ (a : Actor). opens_later a xs later o) is ∙ found-shut actor is found)
     ]

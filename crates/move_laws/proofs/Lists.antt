@@ -2,6 +2,7 @@
 pub mod Cases
 pub mod Contents
 pub mod Copies
+pub mod Each
 pub mod Mapped
 pub mod Partition
 pub mod Sets

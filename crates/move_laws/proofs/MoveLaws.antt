@@ -2,6 +2,7 @@
 pub mod Sound
 pub mod Groups
 pub mod RowMoves
+pub mod Silent
 pub mod ServerMoves
 pub mod LockMoves
 pub mod CopyMoves

@@ -1,5 +1,5 @@
 -- Who holds what at boot: threads their processes, and the kernel the threads.
-use Rattle.std.proofs.Common.{◌≡◌, ◌⊎◌, inl, inr, ℕ, suc, zero, List, [], ◌∷◌, length, get_or, arith, refl, ap, ◌∙◌, Option, Some, None, Bool, true, false, map, replicate}
+use Rattle.std.proofs.Common.{◌≡◌, ◌⊎◌, inl, inr, ℕ, suc, List, [], ◌∷◌, length, get_or, arith, refl, ap, ◌∙◌, Option, Some, None, Bool, true, false, map, replicate}
 use Rattle.std.specs.Prelude.{is_some, not}
 use Rattle.sym_base.specs.declared.number.ObjNo.{ObjNo}
 use Rattle.entry_log.specs.declared.effect.Holder.{Holder}
@@ -25,10 +25,8 @@ use Rattle.machine_laws.proofs.AtBoot.BootRows.{total-const, const_either}
 use Rattle.machine_laws.proofs.AtBoot.Born.{EachBorn, each_born, born_row}
 
 fresh_own_slot : (c : Bool) (n i : ℕ) (x : ObjNo) → own_slot c x (slot_at (replicate n fresh_slot) i) ≡ 0
-fresh_own_slot true n i x = refl
-fresh_own_slot false zero i x = refl
-fresh_own_slot false (suc n) zero x = refl
 fresh_own_slot false (suc n) (suc i) x = fresh_own_slot false n i x
+fresh_own_slot _ _ _ x = refl
 
 empty_own_slot : (c : Bool) (i : ℕ) (x : ObjNo) → own_slot c x (slot_at [] i) ≡ 0
 empty_own_slot true i x = refl

@@ -11,6 +11,7 @@ use Rattle.state_rows.specs.declared.thread.Role.{Role}
 use Rattle.state_rows.specs.declared.thread.Role.TheVariants.{Supervisor, Queue, Declared}
 use Rattle.state_rows.specs.declared.thread.ThreadRow.{ThreadRow}
 use Rattle.machine.specs.Boot.{born, born_kernel, born_process, born_queues, born_thread, born_threads, born_processes, new_thread, is_of}
+use Rattle.machine_laws.proofs.AtBoot.Born.{none_some}
 
 at_seam : (pre : List Born) (b : Born) (bs : List Born) → get_or (map (λ x. x.thread) (pre ++ b ∷ bs)) (length pre) None ≡ b.thread
 at_seam [] b bs = refl
@@ -49,9 +50,6 @@ linked_threads all j p k (d ∷ ds) none =
 linked_queues : (all : List Born) (q : ℕ) (ds : List QueueDecl) → get_or (map (λ x. x.thread) all) 0 None ≡ None → EachLinked all (born_queues q ds)
 linked_queues all q [] none = tt
 linked_queues all q (d ∷ ds) none = (linked_thread all 0 (Queue q) d.priority none, linked_queues all (q + 1) ds none)
-
-none_some : (x : Option ThreadRow) (row : ThreadRow) → x ≡ None → x ≡ Some row → ⊥
-none_some x row e h = cc
 
 linked_processes : (all pre : List Born) (threads : List ThreadDecl) (j p : ℕ) (ds : List ProcessDecl) → length pre ≡ p
     → all ≡ pre ++ born_processes threads j p ds → EachLinked all (born_processes threads j p ds)

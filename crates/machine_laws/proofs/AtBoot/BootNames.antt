@@ -17,9 +17,10 @@ use Rattle.script_types.proofs.NewNames.{process_names, queue_names, thread_name
 use Rattle.machine.specs.declared.boot.Born.{Born}
 use Rattle.state_rows.specs.declared.object.ObjectRow.{ObjectRow}
 use Rattle.machine_laws.proofs.AtBoot.BootObjects.{length-from}
-use Rattle.machine_laws.proofs.AtBoot.Declared.{all-append, all_threads, all_processes}
+use Rattle.machine_laws.proofs.AtBoot.Declared.{all_threads, all_processes}
 use Rattle.machine.specs.Boot.{boot, boot_of, objects_from, born, born_kernel, born_queues, born_thread, born_threads, born_processes, is_of}
 use Rattle.state_rows.specs.ObjectRows.{has_name}
+use Rattle.move_laws.proofs.Lists.Each.{all-both}
 
 -- an object at boot is alive, and is a process or a thread
 abbrev IsPlain : Born → Type 0
@@ -37,11 +38,11 @@ plain_born script =
     let queues = born_queues 1 script.queues in
     let own = born_threads None 0 0 script.threads in
     let first = length (born_kernel script) in
-    all-append IsPlain (born_kernel script) (born_processes script.threads 0 first script.processes) (
+    all-both IsPlain (born_kernel script) (born_processes script.threads 0 first script.processes) (
       (refl, inl refl),
       (
         (refl, inr refl),
-        all-append IsPlain queues own (plain_queues 1 script.queues)
+        all-both IsPlain queues own (plain_queues 1 script.queues)
             (all_threads IsPlain plain_thread None 0 0 script.threads),
       ),
     )

@@ -9,7 +9,8 @@ use Rattle.machine.specs.declared.boot.Born.{Born}
 use Rattle.state_rows.specs.declared.thread.ThreadRow.{ThreadRow}
 use Rattle.machine.specs.Boot.{born, born_kernel, born_queues, born_thread, born_threads, born_processes}
 use Rattle.machine.specs.Task.{served_queue}
-use Rattle.machine_laws.proofs.AtBoot.Declared.{all-append, all_threads, all_processes}
+use Rattle.machine_laws.proofs.AtBoot.Declared.{all_threads, all_processes}
+use Rattle.move_laws.proofs.Lists.Each.{all-both}
 
 -- the queue that a thread serves, None also where there is no thread
 abbrev served_by : Option ThreadRow → Option ℕ
@@ -42,7 +43,7 @@ each_serves script =
     let own = born_threads None 0 0 script.threads in
     let first = length (born_kernel script) in
     let rest = born_processes script.threads 0 first script.processes in
-    let others = all-append ServesNone own rest (all_threads ServesNone no_server None 0 0 script.threads)
+    let others = all-both ServesNone own rest (all_threads ServesNone no_server None 0 0 script.threads)
     (all_processes ServesNone no_server (λ name. refl) script.threads 0 first script.processes) in (
       λ queue is. absurd (cc),
       (

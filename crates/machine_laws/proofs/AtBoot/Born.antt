@@ -23,6 +23,7 @@ use Rattle.machine.specs.WellFormed.{IsRole}
 use Rattle.move_laws.proofs.Lists.Copies.{copy_at}
 use Rattle.move_laws.proofs.Readiness.HasTask.{has_task}
 use Rattle.state_rows.specs.declared.thread.Stage.TheVariants.{Live}
+use Rattle.std.proofs.Math.Bool.{and-true}
 
 -- a thread's row, n being the number of those that stand at boot: it has made no step, and is linked to its process
 pub record IsNewThread (n : ℕ) (row : ThreadRow) : Type 0 where
@@ -50,11 +51,6 @@ EachBorn script n (b ∷ bs) = IsBorn script n b × EachBorn script n bs
 each_born-append : (script : Script) (n : ℕ) (xs ys : List Born) → EachBorn script n xs → EachBorn script n ys → EachBorn script n (xs ++ ys)
 each_born-append script n [] ys h k = k
 each_born-append script n (x ∷ xs) ys h k = (h.0, each_born-append script n xs ys h.1 k)
-
--- a thread that is declared has something to do
-works_unless : (held : Bool) → held ≡ (held && true)
-works_unless true = refl
-works_unless false = refl
 
 slice_get-behind : (pre : List ThreadDecl) (d : ThreadDecl) (ds : List ThreadDecl) → slice_get (pre ++ d ∷ ds) (length pre) ≡ Some d
 slice_get-behind [] d ds = refl
@@ -87,7 +83,7 @@ is_born_thread script n p k d lt few declared = record {
   alive = refl;
   row = λ row is. is_new_thread n p (Declared k) d.priority lt few row is;
   declared = λ row is. has_role script p (Declared k) d.priority declared row is;
-  works = works_unless (not d.held);
+  works = sym (and-true (not d.held));
 }
 
 each_born_threads_step : (script : Script) (n p : ℕ) (k : ℕ) (d : ThreadDecl) (rest : List Born) (b : Bool)
@@ -110,7 +106,7 @@ each_born_threads script shaped n j p pre (d ∷ ds) lt e =
     (is_born_thread script n p (length pre) d lt (shaped.threads (length pre) d at).priority (omega arith))
     (subst (λ (k : ℕ). EachBorn script n (born_threads j p k ds)) long more)
 
-none_some : (x : Option ThreadRow) (row : ThreadRow) → x ≡ None → x ≡ Some row → ⊥
+pub none_some : (x : Option ThreadRow) (row : ThreadRow) → x ≡ None → x ≡ Some row → ⊥
 none_some x row e h = cc
 
 is_born_process : (script : Script) (n : ℕ) (name : List ℕ) → IsBorn script n (born_process name)

@@ -115,7 +115,7 @@ record IsAble (S : State) (t : ObjNo) (row : ThreadRow) : Type 0 where
   pub waits : row.waiting ≡ waiting.Nothing
   pub free : wanted_holder S.synchronization.nano t ≡ None
 
-waits_not : (what : Waiting) (out : Bool) → not (is_wait what || out) ≡ true → what ≡ waiting.Nothing
+pub waits_not : (what : Waiting) (out : Bool) → not (is_wait what || out) ≡ true → what ≡ waiting.Nothing
 waits_not waiting.Nothing out e = refl
 waits_not _ out e = absurd (cc)
 
@@ -132,7 +132,7 @@ able_is script S t row is able =
     }
 
 -- and of one that may act and isn't between a find and its return: it is able
-able_by : (able out shared returns : Bool) → (able || out) ≡ true → out ≡ (shared && returns) → returns ≡ false → able ≡ true
+pub able_by : (able out shared returns : Bool) → (able || out) ≡ true → out ≡ (shared && returns) → returns ≡ false → able ≡ true
 able_by true out shared returns may is back = refl
 able_by false out true returns may is back = absurd (cc)
 able_by false out false returns may is back = absurd (cc)

@@ -39,13 +39,13 @@ use Rattle.move_laws.proofs.Lists.Mapped.{made-here, mapped-some, mapped-value, 
 use Rattle.move_laws.proofs.Lists.Totals.{total-append, total-with, total_at_least}
 use Rattle.move_laws.proofs.Numbers.FewEffects.{tell_few}
 use Rattle.move_laws.proofs.References.Same.{eqb_apart, same_self}
-use Rattle.move_laws.proofs.RowLaws.Declared.{all-both}
 use Rattle.move_laws.proofs.RowLaws.Tables.{slot_inside, table_inside}
 use Rattle.machine_laws.proofs.Fitting.LiveObjects.{handle_is_counted, thread_is_counted}
 use Rattle.machine_laws.proofs.Fitting.SentMessages.{MayPost, accepted_fits, of_wake, open_session, posted, stay-post, woken_fits}
 use Rattle.machine_laws.proofs.Fitting.Staying.{AllStay, Stays, stays-lose, stays-servers}
 use Rattle.machine_laws.proofs.Fitting.Regular.{IsTame, calling}
 use Rattle.machine_laws.proofs.Fitting.Tame.{tame-at}
+use Rattle.move_laws.proofs.Lists.Each.{all-both}
 
 -- the handle of an object stands in a table, and its holder holds it as long as tables and threads are there
 pub record IsHandle (S : State) (t : ObjNo) (h : Holder) (o : ObjNo) : Type 0 where
@@ -102,7 +102,7 @@ pub record MayClose (script : Script) (S : State) (t : ObjNo) : Type 0 where
 part_going : {script : Script} {S : State} {t : ObjNo} → MayClose script S t → is_returning (part_of (thread_of S t)) ≡ false
 part_going h = ap (λ (r : Option ThreadRow). is_returning (part_of r)) h.is ∙ h.going
 
-stays_with : (one kept : Bool) → one ≡ false → (one && not kept) ≡ false
+pub stays_with : (one kept : Bool) → one ≡ false → (one && not kept) ≡ false
 stays_with true kept e = absurd (cc)
 stays_with false kept e = refl
 

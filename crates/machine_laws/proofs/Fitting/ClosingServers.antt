@@ -15,6 +15,7 @@ use Rattle.machine.specs.Serving.{times_owned}
 use Rattle.machine.specs.WellFormed.{AreRows}
 use Rattle.move_laws.proofs.Lists.Mapped.{made-here, made-other, mapped-some}
 use Rattle.move_laws.proofs.References.Same.{eqb_apart}
+use Rattle.move_laws.proofs.RowLaws.Servers.{closing_closes}
 
 -- each server that a thread owns is one
 pub owned_server : (script : Script) (S : State) (u : ObjNo) → AreRows script S → (o : ObjNo)
@@ -26,14 +27,10 @@ closed_there : (x : Option ServerRow) → is_some x ≡ true → closes (option_
 closed_there None is = absurd (cc)
 closed_there (Some row) is = refl
 
-closed_still : (x : Option ServerRow) → closes x ≡ true → closes (option_map closing x) ≡ true
-closed_still None is = absurd (cc)
-closed_still (Some row) is = refl
-
 -- and one that is closing stays so
 still_closing : (r : ServerRows) (x o : ObjNo) → is_closing r o ≡ true → is_closing (after_closing r x) o ≡ true
 still_closing r x o is = elim (cases_eq x.0 o.0) as (λ _. is_closing (after_closing r x) o ≡ true) [
-  | inl at ↦ ap closes (made-here (option_map closing) None r.servers x.0 o.0 refl at) ∙ closed_still (server_at r o) is
+  | inl at ↦ ap closes (made-here (option_map closing) None r.servers x.0 o.0 refl at) ∙ closing_closes (server_at r o) is
   | inr apart ↦ ap closes (made-other (option_map closing) None r.servers x.0 o.0 apart) ∙ is
 ]
 

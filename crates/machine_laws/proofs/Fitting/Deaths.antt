@@ -47,7 +47,7 @@ use Rattle.move_laws.proofs.Lists.Totals.{inside}
 use Rattle.machine_laws.proofs.Fitting.Dooms.{GoOnAfter, after-doom, fits-after, may_die, unprotected_unheld}
 use Rattle.machine_laws.proofs.Fitting.KernelThreads.{fits-answer, fits-look_kind}
 use Rattle.machine_laws.proofs.Fitting.Uncalled.{not_sent}
-use Rattle.machine_laws.proofs.Fitting.Stepping.{FitsDecision, IsStepping, at-with_row, fits-answers, fits-nothing, fits-refuse, has_signals, live_thread, ends_in}
+use Rattle.machine_laws.proofs.Fitting.Stepping.{FitsDecision, IsStepping, at-with_row, fits-answers, fits-nothing, fits-refuse, has_signals, live_thread, ends_in, leaves_at}
 use Rattle.machine_laws.proofs.Fitting.Regular.{IsTame, looking, plain}
 use Rattle.machine_laws.proofs.Fitting.Tame.{may_tell, regular-moves, tame-both, tame-in, tame-moves}
 
@@ -73,7 +73,7 @@ after-doom_or_note script S t u row exit rows is live =
       each = (tt, tt);
       at =
           at-with_row script S (moved t (move.Death (Note u exit)) S) t u (death_row (Note u exit))
-          (record { role = λ r. refl; next = λ r. refl; going = λ r e. e }) refl;
+          (leaves_at (λ r. refl)) refl;
       told = omega arith;
       light = refl;
       calm = tame-moves _ refl refl;

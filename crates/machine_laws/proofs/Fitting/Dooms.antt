@@ -45,12 +45,13 @@ use Rattle.move_laws.proofs.Lists.Cases.{if_cases}
 use Rattle.move_laws.proofs.Lists.Totals.{inside}
 use Rattle.move_laws.proofs.Numbers.FewEffects.{nano-tells}
 use Rattle.machine_laws.proofs.Fitting.ClosingServers.{closed_all, owned_server}
-use Rattle.machine_laws.proofs.Fitting.KernelThreads.{held_holder, mutex_inside, none_is, none_of}
-use Rattle.machine_laws.proofs.Fitting.Stepping.{FitsDecision, IsStepping, at-with_row, fits-answers, fits-refuse, has_signals, MayEndStep, ends_here, ends_in}
+use Rattle.machine_laws.proofs.Fitting.KernelThreads.{held_holder, mutex_inside, none_is}
+use Rattle.machine_laws.proofs.Fitting.Stepping.{FitsDecision, IsStepping, at-with_row, fits-answers, fits-refuse, has_signals, MayEndStep, ends_here, ends_in, leaves_at}
 use Rattle.machine_laws.proofs.Fitting.Waiters.{without_apart}
 use Rattle.move_laws.proofs.RowLaws.Awaited.{dropped_none, undropped}
 use Rattle.machine_laws.proofs.Fitting.Regular.{IsRegular, IsTame, looking, plain}
 use Rattle.machine_laws.proofs.Fitting.Tame.{may_tell, regular-moves, tame-both, tame-doom, tame-in, tame-moves}
+use Rattle.move_laws.proofs.Lists.Mapped.{none_of}
 
 -- a thread that may be doomed: it is there with all its rows, is live, and holds no fast mutex
 pub record MayDie (S : State) (u : ObjNo) : Type 0 where
@@ -115,7 +116,7 @@ each-doom script S t u exit h =
 doomed_at : (script : Script) (S : State) (t u : ObjNo) (exit : Exit) → MayEndStep script S t → MayEndStep script (perform t (doom u exit) S) t
 doomed_at script S t u exit at =
     at-with_row script S (perform t (doom u exit) S) t u (death_row (Doom u exit))
-    (record { role = λ r. refl; next = λ r. refl; going = λ r e. e }) refl at
+    (leaves_at (λ r. refl)) refl at
 
 -- moves that fit, leave a thread at its instruction, tell one effect at most, owe nothing and are tame
 pub record GoOnAfter (script : Script) (S : State) (t : ObjNo) (ms : List Move) : Type 0 where

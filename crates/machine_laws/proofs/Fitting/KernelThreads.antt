@@ -50,15 +50,12 @@ use Rattle.move_laws.proofs.Holders.ThreadRows.{row-here}
 use Rattle.move_laws.proofs.RowLaws.Tables.{object_of_is}
 use Rattle.machine_laws.proofs.Fitting.LiveObjects.{handle_is_counted}
 use Rattle.machine_laws.proofs.Fitting.Shared.{IsCheap}
-use Rattle.machine_laws.proofs.Fitting.Stepping.{at_instruction, is_there, FitsDecision, IsStepping, fits-nothing, fits-refuse, fits-use, at-with_row, serves_none, live-changed, stepping_live, MayEndStep, ends_here, last_step, ends_in}
+use Rattle.machine_laws.proofs.Fitting.Stepping.{at_instruction, is_there, FitsDecision, IsStepping, fits-nothing, fits-refuse, fits-use, at-with_row, serves_none, live-changed, stepping_live, MayEndStep, ends_here, last_step, ends_in, leaves_at}
 use Rattle.machine_laws.proofs.Fitting.Uncalled.{is_uncalled, stepping_uncalled}
 use Rattle.machine_laws.proofs.Fitting.Waiters.{waits_nowhere, stepping_nowhere}
 use Rattle.machine_laws.proofs.Fitting.Regular.{Kinds, looking, plain}
 use Rattle.machine_laws.proofs.Fitting.Tame.{may_tell, regular-answer, regular-moves, tame, tame-both, tame-in, tame-moves, tame-going}
-
-pub none_of : {A : Type 0} (x : Option A) → is_some x ≡ false → x ≡ None
-none_of None e = refl
-none_of (Some x) e = absurd (cc)
+use Rattle.move_laws.proofs.Lists.Mapped.{none_of}
 
 pub none_is : {A : Type 0} (x : Option A) → is_none x ≡ true → x ≡ None
 none_is None e = refl
@@ -201,7 +198,7 @@ signalled {script = script} {S = S} {t = t} u r waiting.Fast h is waits =
     (record { told = omega arith; light = refl; calm = tame-moves _ refl refl })
     (waits_nowhere script S u r h.rows is (λ o e. absurd (cc)), is_uncalled script S u r h.rows is (λ e. absurd (cc)))
     (at-with_row script S (moved t (move.Wake u) S) t u (with_waiting waiting.Nothing)
-    (record { role = λ r. refl; next = λ r. refl; going = λ r e. e }) refl (ends_here h))
+    (leaves_at (λ r. refl)) refl (ends_here h))
 signalled u r _ h is waits = fits-nano (step.Of word.Fssignal part.Do) refl (nano.Raise u) (pos 0) h (ap is_some is) tt
 
 pub fits-fssignal : {script : Script} {S : State} {t : ObjNo} {row : ThreadRow} {instr : Instr} (name : List ℕ)
@@ -314,6 +311,6 @@ fits-priority {script = script} {S = S} {t = t} {row = row} x priority (Some p) 
       fits = (number_in 0 63 priority (instr_in (instr.Priority x priority) h.ranges).1.0).1;
       at =
           at-with_row script S (moved t (move.SetPriority u priority) S) t u (with_priority priority)
-          (record { role = λ r. refl; next = λ r. refl; going = λ r e. e }) refl (ends_here h);
+          (leaves_at (λ r. refl)) refl (ends_here h);
       cheap = record { told = omega arith; light = refl; calm = tame-moves _ refl refl };
     }))

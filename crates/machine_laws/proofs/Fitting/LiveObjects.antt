@@ -1,7 +1,7 @@
 -- Objects that are referred to have a count, and are alive.
 use Rattle.std.proofs.Common.{◌≡◌, ℕ, suc, zero, ◌<◌, List, [], ◌∷◌, length, get_or, arith, ltb-true, refl, sym, subst, ap, ◌∙◌, Option, Some, None, Bool, true, false}
 use Rattle.std.specs.Prelude.{is_some, not, position, nat_lt, ◌==◌, ◌||◌, if◌then◌else◌}
-use Rattle.std.proofs.lemmas.Bool.{and_parts, eqb-true}
+use Rattle.std.proofs.lemmas.Bool.{and_parts, eqb-true, not-true}
 use Rattle.std.proofs.lemmas.List.Quantifiers.{position-Some}
 use Rattle.sym_base.specs.declared.number.ObjNo.{ObjNo}
 use Rattle.sym_base.specs.declared.kind.Kind.{Kind}
@@ -51,15 +51,11 @@ alive_inside [] i h = absurd h
 alive_inside (x ∷ xs) zero h = omega arith
 alive_inside (x ∷ xs) (suc i) h = let r = alive_inside xs i h in omega arith
 
-not_dead : (dead : Bool) → not dead ≡ true → dead ≡ false
-not_dead true e = cc
-not_dead false e = refl
-
 -- what may be opened is alive, and has the place that is sought
 pub open_is_alive : (place : ℕ) (row : Option ObjectRow) → is_open place row ≡ true → IsAlive row × (place_of row ≡ place)
 open_is_alive place None e = cc
 open_is_alive place (Some row) e =
-    let parts = and_parts (not row.dead) (row.place == place) e in (not_dead row.dead parts.0, eqb-true row.place place parts.1)
+    let parts = and_parts (not row.dead) (row.place == place) e in (not-true row.dead parts.0, eqb-true row.place place parts.1)
 
 number_there : (rows : List (Option ObjectRow)) (p : Option ℕ) (o : ObjNo) → ((n : ℕ) → p ≡ Some n → is_some (get_or rows n None) ≡ true)
     → numbered p ≡ Some o → is_some (get_or rows o.0 None) ≡ true

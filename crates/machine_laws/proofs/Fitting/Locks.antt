@@ -45,7 +45,7 @@ use Rattle.move_laws.proofs.Lists.Cases.{if_cases}
 use Rattle.move_laws.proofs.Readiness.FirstReady.{greatest_listed}
 use Rattle.machine_laws.proofs.Fitting.KernelThreads.{fits-answer, fits-look_kind, fits-unless}
 use Rattle.machine_laws.proofs.Fitting.LiveObjects.{use_is_alive, use_is_counted}
-use Rattle.machine_laws.proofs.Fitting.Stepping.{FitsDecision, IsStepping, fits-answers, fits-nothing, fits-refuse, at-with_row, live-changed, stepping_live, ends_here, last_step, ends_in}
+use Rattle.machine_laws.proofs.Fitting.Stepping.{FitsDecision, IsStepping, fits-answers, fits-nothing, fits-refuse, at-with_row, live-changed, stepping_live, ends_here, last_step, ends_in, leaves_at}
 use Rattle.machine_laws.proofs.Fitting.Uncalled.{stepping_uncalled, waiter_uncalled}
 use Rattle.machine_laws.proofs.Fitting.Waiters.{passed_is, stepping_nowhere, struck_nowhere, woke_is}
 use Rattle.machine_laws.proofs.Fitting.Regular.{IsTame, Kinds, locking, looking}
@@ -70,7 +70,7 @@ fits-woken {script = script} {S = S} {t = t} told named m w calm h fits nowhere 
     (tame-both (move.Locks m ∷ []) (move.Wake w ∷ []) (let few = calm.loses in omega arith) calm
     (tame-moves _ refl refl)) (fits, ((nowhere, calls), tt))
     (at-with_row script S _ t w (with_waiting waiting.Nothing)
-    (record { role = λ r. refl; next = λ r. refl; going = λ r e. e }) refl (ends_here h))
+    (leaves_at (λ r. refl)) refl (ends_here h))
     (let few = lock-tells m in omega arith) (let few = lock-owes m in omega arith)
 
 -- the state in which the thread waits for an object, and comes to stand among its waiters

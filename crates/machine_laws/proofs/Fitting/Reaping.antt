@@ -43,7 +43,7 @@ use Rattle.move_laws.proofs.Lists.Cases.{if_cases}
 use Rattle.move_laws.proofs.Lists.Totals.{inside, total-set, total_at_least, total_within}
 use Rattle.move_laws.proofs.Readiness.FirstReady.{greatest_listed}
 use Rattle.move_laws.proofs.References.Same.{same_self}
-use Rattle.move_laws.proofs.RowLaws.Declared.{all-both, burial_inside, queue_inside}
+use Rattle.move_laws.proofs.RowLaws.Declared.{burial_inside, queue_inside}
 use Rattle.machine_laws.proofs.Fitting.Bodies.{light-end}
 use Rattle.machine_laws.proofs.Fitting.KernelThreads.{held_holder}
 use Rattle.machine_laws.proofs.Fitting.Closing.{IsHandle, closes, handle_of_process, handle_of_thread}
@@ -53,6 +53,7 @@ use Rattle.machine_laws.proofs.Fitting.Waiters.{struck_nowhere, waits_nowhere}
 use Rattle.machine_laws.proofs.Fitting.ServerEnds.{IsGiven, OfFirst, empty_left, empty_right, first-all, first-both, fits-work, no-items, none-owned}
 use Rattle.machine_laws.proofs.Fitting.Regular.{freeing, kind_given, plain, calling, going}
 use Rattle.machine_laws.proofs.Fitting.Tame.{regular-moves, tame, tame-at, tame-both, tame-moves, tame-going}
+use Rattle.move_laws.proofs.Lists.Each.{all-both}
 
 -- a doomed thread that acts: it waits for nothing, and isn't between a find and its return
 pub record IsDying (script : Script) (S : State) (t : ObjNo) (row : ThreadRow) : Type 0 where

@@ -36,7 +36,7 @@ use Rattle.move_laws.proofs.Lists.Cases.{if_cases, or_false_left, or_false_right
 use Rattle.move_laws.proofs.Lists.Totals.{inside}
 use Rattle.move_laws.proofs.References.Same.{same_object}
 use Rattle.move_laws.proofs.RowLaws.Declared.{dfc_inside}
-use Rattle.machine_laws.proofs.Fitting.KernelThreads.{none_of, fits-answer, fits-move, fits-later, fits-unless}
+use Rattle.machine_laws.proofs.Fitting.KernelThreads.{fits-answer, fits-move, fits-later, fits-unless}
 use Rattle.machine_laws.proofs.Fitting.Stepping.{FitsDecision, IsStepping, fits-nothing, has_signals, fits-refuse, live-changed, live_thread, stepping_live, ends_in}
 use Rattle.machine_laws.proofs.Fitting.Uncalled.{stepping_uncalled}
 use Rattle.machine_laws.proofs.Fitting.Waiters.{stepping_nowhere}
@@ -44,6 +44,7 @@ use Rattle.machine.specs.Out.{is_returning}
 use Rattle.machine.specs.Moves.{moved, with_part}
 use Rattle.machine_laws.proofs.Fitting.Regular.{looking, plain}
 use Rattle.machine_laws.proofs.Fitting.Tame.{may_tell, tame-moves}
+use Rattle.move_laws.proofs.Lists.Mapped.{none_of}
 
 -- `queue`
 pub fits-queue : {script : Script} {S : State} {t : ObjNo} {row : ThreadRow} {instr : Instr} (name : List ℕ)

@@ -38,14 +38,11 @@ use Rattle.machine_laws.proofs.Fitting.Uncalled.{is_uncalled}
 use Rattle.machine_laws.proofs.Fitting.Waiters.{waits_nowhere}
 use Rattle.machine_laws.proofs.Fitting.Regular.{IsTame, Kinds, serving}
 use Rattle.machine_laws.proofs.Fitting.Tame.{tame-at, tame-moves}
+use Rattle.move_laws.proofs.RowLaws.Tables.{object_of_step}
 
 -- a session whose messages a server accepts is one, and its server is one
-chosen_server : (b : Bool) (x : Option ObjNo) (o : ObjNo) → (if b then x else None) ≡ Some o → x ≡ Some o
-chosen_server true x o e = e
-chosen_server false x o e = absurd (cc)
-
 pub linked_server : (S : State) (s o : ObjNo) → open_server S s ≡ Some o → server_of S.serving.servers s ≡ Some o
-linked_server S s o e = chosen_server (accepts S.serving.servers (server_of S.serving.servers s)) (server_of S.serving.servers s) o e
+linked_server S s o e = object_of_step (accepts S.serving.servers (server_of S.serving.servers s)) (server_of S.serving.servers s) o e
 
 linked_session : (x : Option SessionRow) (o : ObjNo) → link_of x ≡ Some o → is_some x ≡ true
 linked_session None o e = absurd (cc)

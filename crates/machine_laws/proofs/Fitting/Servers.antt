@@ -45,7 +45,7 @@ use Rattle.machine_laws.proofs.Fitting.KernelThreads.{fits-answer, fits-later, f
 use Rattle.machine_laws.proofs.Fitting.LiveObjects.{alive_inside, use_is_alive}
 use Rattle.machine_laws.proofs.Fitting.Shared.{of_thread_handle}
 use Rattle.machine_laws.proofs.Fitting.Staying.{stay-finish, stay-perform}
-use Rattle.machine_laws.proofs.Fitting.Stepping.{FitsDecision, IsStepping, at-with_row, fits-answers, fits-handle, fits-nothing, fits-refuse, live-changed, live_thread, stepping_live, ends_here}
+use Rattle.machine_laws.proofs.Fitting.Stepping.{FitsDecision, IsStepping, at-with_row, fits-answers, fits-handle, fits-nothing, fits-refuse, live-changed, live_thread, stepping_live, ends_here, leaves_at}
 use Rattle.machine_laws.proofs.Fitting.Steps.{room_left}
 use Rattle.machine_laws.proofs.Fitting.Uncalled.{stepping_uncalled}
 use Rattle.machine_laws.proofs.Fitting.Waiters.{stepping_nowhere}
@@ -109,7 +109,7 @@ fits-take {script = script} {S = S} {t = t} {row = row} told named o y m h going
     fits-answers told named (move.Messages (Take o) ∷ move.WriteMessage t y m.0 ∷ []) (pos m.0) (tame-moves _ refl refl)
     ((omega arith, owes_more h going, tt), (register, tt))
     (at-with_row script S (moved t (move.WriteMessage t y m.0) (moved t (move.Messages (Take o)) S)) t t
-    (with_message y m.0) (record { role = λ r. refl; next = λ r. refl; going = λ r e. e }) refl (ends_here h))
+    (with_message y m.0) (leaves_at (λ r. refl)) refl (ends_here h))
     (omega arith) (omega arith)
 
 -- `receive`

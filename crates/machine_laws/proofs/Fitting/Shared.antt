@@ -99,7 +99,7 @@ fits-seek {k = k} {script = script} {S = S} {t = t} {row = row} word kind name g
     }
 
 -- a thread that comes back from a find of an object that isn't open misses it
-missed_not : (place : ℕ) (row : Option ObjectRow) → is_open place row ≡ false → IsAlive row → place_of row ≡ place → ⊥
+pub missed_not : (place : ℕ) (row : Option ObjectRow) → is_open place row ≡ false → IsAlive row → place_of row ≡ place → ⊥
 missed_not place None e alive same = absurd alive
 missed_not place (Some row) e alive same =
     let opened = and_from (not row.dead) (row.place == place) (ap not alive) (eq-eqb row.place place same) in cc

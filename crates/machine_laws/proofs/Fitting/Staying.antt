@@ -26,8 +26,8 @@ use Rattle.machine.specs.Rows.{thread_of}
 use Rattle.machine.specs.ThreadCalls.{is_live}
 use Rattle.std.proofs.Common.{ℤ}
 use Rattle.move_laws.proofs.Lists.Cases.{if_cases}
-use Rattle.move_laws.proofs.RowLaws.Declared.{all-both}
-use Rattle.machine_laws.proofs.Fitting.Stepping.{ends-same, at-with_row, MayEndStep}
+use Rattle.machine_laws.proofs.Fitting.Stepping.{ends-same, at-with_row, MayEndStep, leaves_at}
+use Rattle.move_laws.proofs.Lists.Each.{all-both}
 
 -- moves that do, in an action of thread t
 pub record Stays (script : Script) (t : ObjNo) (m : Move) : Type 0 where
@@ -62,18 +62,18 @@ pub stays-wake : (script : Script) (t u : ObjNo) → Stays script t (move.Wake u
 stays-wake script t u = record {
   at =
       λ S at. at-with_row script S (moved t (move.Wake u) S) t u (with_waiting waiting.Nothing)
-      (record { role = λ r. refl; next = λ r. refl; going = λ r e. e }) refl at;
+      (leaves_at (λ r. refl)) refl at;
 }
 
 -- the loss of a reference
 stays-unlinked : (script : Script) (S T : State) (t o : ObjNo) (last : Bool)
     → T.references.threads ≡ threads_closed last o S.references.threads → MayEndStep script S t → MayEndStep script T t
-stays-unlinked script S T t o true same at = at-with_row script S T t o unlinked (record { role = λ r. refl; next = λ r. refl; going = λ r e. e }) same at
+stays-unlinked script S T t o true same at = at-with_row script S T t o unlinked (leaves_at (λ r. refl)) same at
 stays-unlinked script S T t o false same at = ends-same script S T t same at
 
 stays-lost : (script : Script) (S T : State) (t : ObjNo) (h : Holder)
     → T.references.threads ≡ threads_lose h S.references.threads → MayEndStep script S t → MayEndStep script T t
-stays-lost script S T t (Temp u) same at = at-with_row script S T t u (with_use None) (record { role = λ r. refl; next = λ r. refl; going = λ r e. e }) same at
+stays-lost script S T t (Temp u) same at = at-with_row script S T t u (with_use None) (leaves_at (λ r. refl)) same at
 stays-lost script S T t _ same at = ends-same script S T t same at
 
 pub stays-lose : (script : Script) (t : ObjNo) (h : Holder) (o : ObjNo) → Stays script t (move.Lose h o)

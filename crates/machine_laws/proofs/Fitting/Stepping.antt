@@ -44,6 +44,7 @@ use Rattle.move_laws.proofs.RowLaws.MessagesKept.{begun_one}
 use Rattle.move_laws.proofs.RowLaws.Threads.{row-kept, map_some}
 use Rattle.machine_laws.proofs.Fitting.Regular.{IsRegular, IsTame, Kinds}
 use Rattle.machine_laws.proofs.Fitting.Tame.{may_tell, regular-answer, regular-use, tame, tame-both, tame-moves}
+use Rattle.move_laws.proofs.MoveLaws.Gains.{later_goes}
 
 -- the moves of a decision fit, what they tell and owe is little, and it is regular for its kind
 pub record FitsDecision (k : Kinds) (script : Script) (t : ObjNo) (S : State) (d : Decision) : Type 0 where
@@ -127,6 +128,18 @@ pub record KeepsInstruction (f : ThreadRow → ThreadRow) : Type 0 where
   pub next : (row : ThreadRow) → (f row).next_instruction ≡ row.next_instruction
   pub going : (row : ThreadRow) → is_returning row.part ≡ false → is_returning (f row).part ≡ false
 
+-- where a thread is
+abbrev pub at_of : ThreadRow → Role × ℕ × Option Part
+at_of row = (row.role, row.next_instruction, row.part)
+
+-- a change of a row that leaves that
+pub leaves_at : {f : ThreadRow → ThreadRow} → ((row : ThreadRow) → at_of (f row) ≡ at_of row) → KeepsInstruction f
+leaves_at same = record {
+  role = λ row. ap (λ (at : Role × ℕ × Option Part). at.0) (same row);
+  next = λ row. ap (λ (at : Role × ℕ × Option Part). at.1) (same row);
+  going = λ row e. ap (λ (at : Role × ℕ × Option Part). is_returning at.2) (same row) ∙ e;
+}
+
 -- a thread may end its instruction: it is at one, and isn't between a find and its return
 pub record MayEndStep (script : Script) (S : State) (t : ObjNo) : Type 0 where
   pub back : IsBack S t
@@ -191,12 +204,6 @@ live-changed S T t f keeps same h = λ r is.
     ∙ (ap (λ (threads : List (Option ThreadRow)). get_or threads t.0 None) (sym same) ∙ is)) in
     subst (λ (x : ThreadRow). x.stage ≡ Live) was.2 (keeps was.0 ∙ h was.0 was.1)
 
--- a step in which something is used is no return
-pub later_other : (p : Option Part) → is_before_use p ≡ false → is_returning p ≡ false
-later_other None later = absurd (cc)
-later_other (Some Return) later = absurd (cc)
-later_other (Some _) later = refl
-
 -- a step before the use of anything is the last of no instruction
 pub before_begins : (p : Option Part) → is_before_use p ≡ true → begun p ≡ 0
 before_begins None e = refl
@@ -211,7 +218,7 @@ may_go_on part h ends later = record {
   unused = λ r is before. absurd (cc);
   going = is_there h;
   unspent = unspent h;
-  other = later_other (Some part) later;
+  other = later_goes (Some part) later;
   ends = same_row h (λ x. begun x.part ≤ begun (Some part)) ends;
 }
 
@@ -269,7 +276,7 @@ pub fits-both : (script : Script) (S : State) (t : ObjNo) (xs ys : List Move) �
 fits-both script S t [] ys h more = more
 fits-both script S t (m ∷ xs) ys h more = (h.0, fits-both script (moved t m S) t xs ys h.1 more)
 
-perform-append : (t : ObjNo) (xs ys : List Move) (S : State) → perform t (xs ++ ys) S ≡ perform t ys (perform t xs S)
+pub perform-append : (t : ObjNo) (xs ys : List Move) (S : State) → perform t (xs ++ ys) S ≡ perform t ys (perform t xs S)
 perform-append t [] ys S = refl
 perform-append t (m ∷ xs) ys S = perform-append t xs ys (moved t m S)
 
@@ -322,7 +329,7 @@ fits-handle {script = script} {S = S} {t = t} told named ms x number calm h regi
     let all_told = total-append most_told ms more in
     let all_owed = total-append most_owed ms more in
     let at = at-with_row script S (perform t more (perform t ms S)) t t (with_register x number)
-    (record { role = λ r. refl; next = λ r. refl; going = λ r e. e })
+    (leaves_at (λ r. refl))
     (ap (λ (threads : List (Option ThreadRow)). with_row threads t (with_register x number)) stays) (ends_here h) in
     fits-answers told named (ms ++ more) _ (tame-both ms more (let few = calm.loses in omega arith) calm
     (tame-moves more refl refl)) (fits-both script S t ms more each (register, tt))

@@ -1,7 +1,7 @@
 -- Moves and decisions of which it can be seen that they are regular for their kind.
 use Rattle.std.proofs.Common.{◌≡◌, ◌≤◌, ℕ, ℤ, ◌+◌, List, [], ◌∷◌, ◌++◌, arith, refl, sym, ap, subst, ◌∙◌, Bool, true, false, ◌<◌, ◌⊎◌, inl, inr, None, Option}
 use Rattle.std.specs.Prelude.{◌==◌, ◌&&◌, ◌||◌, not, nat_lt}
-use Rattle.std.proofs.lemmas.Bool.{and_parts, eqb-true, ltb-true}
+use Rattle.std.proofs.lemmas.Bool.{and_parts, eqb-true, ltb-true, not-true}
 use Rattle.sym_base.specs.declared.kind.Exit.{Exit}
 use Rattle.sym_base.specs.declared.number.ObjNo.{ObjNo}
 use Rattle.sym_base.specs.declared.word.Word.{Word}
@@ -77,10 +77,6 @@ second false y e none = e
 first : (x y : Bool) → (x || y) ≡ true → y ≡ false → x ≡ true
 first true y e none = refl
 first false y e none = absurd (cc)
-
-negated : (x : Bool) → not x ≡ true → x ≡ false
-negated true e = absurd (cc)
-negated false e = refl
 
 -- what can be seen so
 closed-none : (v : ObjNo) (m : Move) → closing_bit m ≡ 0 → closed_bit v m ≡ 0
@@ -283,16 +279,16 @@ module _ (k : Kinds) (step : Step) (e : may_tell k step ≡ true) where
   told-rest = and_parts (not (is_send step) || k.serves) (not (is_clean step) && not (is_return step)) told-parts.1
 
   told-makes : makes_server step ≡ true → k.locks ≡ false
-  told-makes is = negated k.locks (second (not (makes_server step)) (not k.locks) told-parts.0 (ap not is))
+  told-makes is = not-true k.locks (second (not (makes_server step)) (not k.locks) told-parts.0 (ap not is))
 
   told-sends : k.serves ≡ false → is_send step ≡ false
-  told-sends calm = negated (is_send step) (first (not (is_send step)) k.serves told-rest.0 calm)
+  told-sends calm = not-true (is_send step) (first (not (is_send step)) k.serves told-rest.0 calm)
 
   told-cleans : is_clean step ≡ false
-  told-cleans = negated (is_clean step) (and_parts (not (is_clean step)) (not (is_return step)) told-rest.1).0
+  told-cleans = not-true (is_clean step) (and_parts (not (is_clean step)) (not (is_return step)) told-rest.1).0
 
   told-returns : is_return step ≡ false
-  told-returns = negated (is_return step) (and_parts (not (is_clean step)) (not (is_return step)) told-rest.1).1
+  told-returns = not-true (is_return step) (and_parts (not (is_clean step)) (not (is_return step)) told-rest.1).1
 
   told-comes : return_bit step ≡ 0
   told-comes = if_not (is_return step) 1 told-returns

@@ -1,7 +1,7 @@
 -- Who may come to stand among waiters, and who stands nowhere once it is struck.
 use Rattle.std.proofs.Common.{◌≡◌, inl, inr, ℕ, ◌<◌, List, [], ◌∷◌, length, get_or, refl, sym, ap, subst, ◌∙◌, Option, Some, None, Bool, true, false}
 use Rattle.std.specs.Prelude.{not, ◌==◌, if◌then◌else◌, nat_lt, slice_set}
-use Rattle.std.proofs.lemmas.Bool.{cases_eq, cases_lt, or_from}
+use Rattle.std.proofs.lemmas.Bool.{cases_eq, cases_lt, or_from, false_from_ne_true}
 use Rattle.std.proofs.lemmas.List.{get_or-set_same, get_or-set_other, get_or_past}
 use Rattle.sym_base.specs.declared.number.ObjNo.{ObjNo}
 use Rattle.script_types.specs.declared.script.Script.{Script}
@@ -19,14 +19,10 @@ use Rattle.machine.specs.Fits.{WaitsNowhere}
 use Rattle.machine.specs.WellFormed.{AreRows}
 use Rattle.machine_laws.proofs.Fitting.Stepping.{IsStepping}
 
-not_true : (b : Bool) → (b ≡ true → ⊥) → b ≡ false
-not_true true h = absurd (h refl)
-not_true false h = refl
-
 -- a thread that waits for no object stands among no waiters
 pub waits_nowhere : (script : Script) (S : State) (u : ObjNo) (row : ThreadRow) → AreRows script S
     → thread_of S u ≡ Some row → ((o : ObjNo) → row.waiting ≡ waiting.Lock o → ⊥) → WaitsNowhere S u
-waits_nowhere script S u row rows is not_for o = not_true (is_among u (waiters_at S.synchronization.locks o)) (λ among.
+waits_nowhere script S u row rows is not_for o = false_from_ne_true (is_among u (waiters_at S.synchronization.locks o)) (λ among.
     let awaits = rows.synchronization.locks.waiters u o among in
     let there = awaits.is in
     let same : row ≡ awaits.row = cc in
@@ -92,7 +88,7 @@ struck_nowhere script S o w rows among x =
           (ap (is_among w) (get_or-set_same lists o.0 struck [] (among_inside lists o.0 w among)) ∙ without_apart w (waiters_at S.synchronization.locks o))
       | inr apart ↦
           ap (is_among w) (get_or-set_other lists o.0 x.0 struck [] (λ e. apart (sym e)))
-          ∙ not_true (is_among w (waiters_at S.synchronization.locks x)) (λ elsewhere.
+          ∙ false_from_ne_true (is_among w (waiters_at S.synchronization.locks x)) (λ elsewhere.
           let here = rows.synchronization.locks.waiters w o among in
           let there = rows.synchronization.locks.waiters w x elsewhere in
           let one = here.is in

@@ -37,7 +37,6 @@ use Rattle.machine_laws.proofs.Reached.AfterHistory.{rows-keeping, well_formed-b
 made-move : (t : ObjNo) (m : Move) (S : State) → (moved t m S).references.made ≤ S.references.made + once_bit m
 made-move t (Make kind name h) S = omega arith
 made-move t (Pay (Close h o)) S = omega arith
-made-move t (Pay (Sweep o)) S = omega arith
 made-move t _ S = omega arith
 
 -- moves make as many objects at most as the bit counts, and unmake none

@@ -24,7 +24,6 @@ use Rattle.machine.specs.Transition.{act}
 
 pub mode-moved : (S : State) (t : ObjNo) (m : Move) → (moved t m S).mode ≡ S.mode
 mode-moved S t (Pay (Close h o)) = refl
-mode-moved S t (Pay (Sweep o)) = refl
 mode-moved S t _ = refl
 
 pub mode-perform : (S : State) (t : ObjNo) (ms : List Move) → (perform t ms S).mode ≡ S.mode
@@ -83,18 +82,12 @@ choosing-shared S e shared = ap (λ (b : Bool). keeping (b && is_deathless e.eff
 
 -- who may act is asked of no choice
 pub able-keeping : (script : Script) (S : State) (keep : Bool) (actor : Actor) → CanAct script S actor → CanAct script (keeping keep S) actor
-able-keeping script S keep (Thread t) able = able
-able-keeping script S keep (Irq k) able = able
-able-keeping script S keep Idfc able = able
-able-keeping script S keep Tick able = able
 able-keeping script S keep Idle able = record { none = able.none; nobody = able.nobody }
+able-keeping script S keep _ able = able
 
 pub able-kept : (script : Script) (S : State) (keep : Bool) (actor : Actor) → CanAct script (keeping keep S) actor → CanAct script S actor
-able-kept script S keep (Thread t) able = able
-able-kept script S keep (Irq k) able = able
-able-kept script S keep Idfc able = able
-able-kept script S keep Tick able = able
 able-kept script S keep Idle able = record { none = able.none; nobody = able.nobody }
+able-kept script S keep _ able = able
 
 -- numbers are used again in each state or in none
 pub reuse-after : (script : Script) (S : State) (es : List Entry) → (after_from script S es).mode.reuse ≡ S.mode.reuse

@@ -26,25 +26,17 @@ use Rattle.machine.specs.Task.{is_able, is_stopped, is_wait, is_waiting_row, may
 use Rattle.machine.specs.Transition.{Transition, act, carried_out}
 use Rattle.machine_laws.proofs.Sharing.Decided.{decided-mode, plan-mode, task-mode}
 use Rattle.machine_laws.proofs.Sharing.Moved.{in_mode, IsAlone, TellsNoDeath, perform-mode, tell-mode}
+use Rattle.std.proofs.Math.Bool.{and-false, and-true}
 
 -- who is able where one caller is alone is able where callers share the kernel, unless it is out
 out_bits : (waits returns going has free : Bool)
     → (not (waits || returns) && going && has && free) ≡ ((not (waits || false) && going && has && free) && not returns)
 out_bits true returns going has free = refl
-out_bits false true true true true = refl
-out_bits false true true true false = refl
-out_bits false true true false free = refl
-out_bits false true false has free = refl
-out_bits false false true true true = refl
-out_bits false false true true false = refl
-out_bits false false true false free = refl
-out_bits false false false has free = refl
+out_bits false true going has free = sym (and-false (going && has && free))
+out_bits false false going has free = sym (and-true (going && has && free))
 
 unless_out : (going has free : Bool) → (going && has && free) ≡ ((going && has && free) && not false)
-unless_out true true true = refl
-unless_out true true false = refl
-unless_out true false free = refl
-unless_out false has free = refl
+unless_out going has free = sym (and-true (going && has && free))
 
 module _ (script : Script) (keep : Bool) (S : State) (alone : IsAlone S) where
   shared-not : S.mode.shared ≡ false

@@ -138,7 +138,7 @@ comes-next script S Tick shaped rows = refl
 comes-next script S Idle shaped rows = refl
 
 -- and an actor finds one object at most
-any-find : (ms : List Move) → (total finding_bit ms ≡ 0) ⊎ ((o : ObjNo) × (0 < total (find_bit o) ms))
+pub any-find : (ms : List Move) → (total finding_bit ms ≡ 0) ⊎ ((o : ObjNo) × (0 < total (find_bit o) ms))
 any-find [] = inl refl
 any-find (Find u o ∷ ms) = inr (o, let self = same_self o in omega arith)
 any-find (m ∷ ms) = elim (any-find ms) as (λ _. (total finding_bit (m ∷ ms) ≡ 0) ⊎ ((o : ObjNo) × (0 < total (find_bit o) (m ∷ ms)))) [

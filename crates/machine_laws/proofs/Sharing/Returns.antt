@@ -39,9 +39,8 @@ is_back_next S _ = false
 -- the step of a return
 step-back : (t o : ObjNo) (word : Word) (next : Part) (opens live : Bool)
     → is_return (if opens then one_move (Of word part.Return) (Open t o next) else miss t word o live).step ≡ true
-step-back t o word next true live = refl
 step-back t o word next false true = refl
-step-back t o word next false false = refl
+step-back t o word next _ _ = refl
 
 step-return : (S : State) (t : ObjNo) (row : ThreadRow) (word : Word) (next : Part) → is_return (return_to S t row word next).step ≡ true
 step-return S t row word next = step-back t (found_object row) word next (is_open row.sought (object_of S (found_object row))) (is_live row.stage)
@@ -54,9 +53,7 @@ module _ (script : Script) (S : State) (t : ObjNo)
       → is_return (decision_of_row script S t (Some row) (return_or returns at other)).step ≡ true
   task-return row true (Some (instr.Open kind name x)) other is finds = step-return S t row word.Open part.Do
   task-return row true (Some (instr.Connect name slots x)) other is finds = step-return S t row word.Connect part.Make
-  task-return row true (Some _) other is finds = absurd (cc)
-  task-return row true None other is finds = absurd (cc)
-  task-return row false at other is finds = absurd (cc)
+  task-return row _ _ other is finds = absurd (cc)
 
   row-return : (row : Option ThreadRow) → thread_of S t ≡ row → is_returning (part_of row) ≡ true
       → is_return (decision_of_row script S t row (task_of_row script S t row)).step ≡ true

@@ -34,12 +34,13 @@ use Rattle.machine_safe.proofs.Deaths.Rows.{live-left, row_bit}
 use Rattle.machine_safe.proofs.Deaths.Runs.{kept-next}
 use Rattle.machine_safe.proofs.Deaths.Tables.{AreEmptied, IsEmptyTable, emptied-move, emptied-pay, left-none}
 use Rattle.machine_safe.proofs.Deaths.DeathsTold.{Dies, own-barred}
-use Rattle.machine_safe.proofs.Deaths.LeftAtCleaning.{alone, total-none}
+use Rattle.machine_safe.proofs.Deaths.LeftAtCleaning.{alone}
 use Rattle.state_rows.specs.Nano.{held_by, holder_of}
 use Rattle.machine_laws.proofs.Fitting.KernelThreads.{held_holder}
 use Rattle.machine_safe.proofs.Deaths.InOrder.{exact-run}
 use Rattle.machine_safe.proofs.Deaths.AfterDoom.{unheld}
 use Rattle.machine_safe.specs.CountAfter.{effects_of}
+use Rattle.move_laws.proofs.Lists.Totals.{total-none}
 
 -- no table has an object at boot
 emptied-boot : (script : Script) → AreEmptied (boot script)

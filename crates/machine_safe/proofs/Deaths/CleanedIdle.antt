@@ -1,7 +1,7 @@
 -- A thread that is cleaned owes nothing from then on, and doesn't act.
 use Rattle.std.proofs.Common.{◌≡◌, ◌⊎◌, inl, inr, ℕ, ◌+◌, ◌<◌, List, [], ◌∷◌, length, get_or, arith, refl, sym, ap, subst, ◌∙◌, Option, Some, None, Bool, true, false}
 use Rattle.std.specs.Prelude.{◌&&◌, ◌||◌, ◌==◌, if◌then◌else◌, is_none, is_some, not}
-use Rattle.std.proofs.lemmas.Bool.{eq-eqb, eqb-true}
+use Rattle.std.proofs.lemmas.Bool.{eq-eqb, eqb-true, and_right}
 use Rattle.std.proofs.lemmas.List.{get_or-set_other}
 use Rattle.sym_base.specs.declared.number.ObjNo.{ObjNo}
 use Rattle.script_types.specs.declared.script.Script.{Script}
@@ -77,9 +77,7 @@ owed-death : (script : Script) (S : State) (t : ObjNo) (m : DeathMove) (u : ObjN
     → OwesNoMore t u (most_owed (Death m)) → owed_of (moved t (Death m) S) u ≡ owed_of S u
 owed-death script S t (Bury v) u (inl apart) = get_or-set_other S.references.owed t.0 u.0 _ [] apart
 owed-death script S t (Bury v) u (inr none) = absurd (omega arith)
-owed-death script S t (Note v exit) u none = refl
-owed-death script S t (Doom v exit) u none = refl
-owed-death script S t (Clean v) u none = refl
+owed-death script S t _ u none = refl
 
 owed-message : (S : State) (t : ObjNo) (m : MessageMove) (u : ObjNo) → OwesNoMore t u (most_owed (Messages m))
     → owed_of (moved t (Messages m) S) u ≡ owed_of S u
@@ -176,21 +174,14 @@ not-left Doomed e = absurd (omega arith)
 not-left Cleaned e = refl
 not-left Buried e = refl
 
-both-false : (a b : Bool) → b ≡ false → (a && b) ≡ false
-both-false true b e = e
-both-false false b e = refl
-
 -- such a thread has nothing to do
 idle-by : (returns : Bool) (at : Option Instr) (owed : List Owed) (stage : Stage) (has : List Holding)
     (own : Option Task)
     → returns ≡ false → owed ≡ [] → is_spent stage ≡ true
     → is_some (return_or returns at (pay_or (first_of owed) (by_stage stage has own))) ≡ false
-idle-by true at owed stage has own going paid spent = absurd (cc)
-idle-by false at (x ∷ xs) stage has own going paid spent = absurd (cc)
-idle-by false at [] Live has own going paid spent = absurd (cc)
-idle-by false at [] Doomed has own going paid spent = absurd (cc)
 idle-by false at [] Cleaned has own going paid spent = refl
 idle-by false at [] Buried has own going paid spent = refl
+idle-by _ at _ _ has own going paid spent = absurd (cc)
 
 no-task : (script : Script) (S : State) (t : ObjNo) → AreRows script S → IsGone S t → is_some (task_of script S t) ≡ false
 no-task script S t rows h = by (thread_of S t) refl h.left
@@ -207,10 +198,10 @@ not-out : (script : Script) (S : State) (t : ObjNo) → AreRows script S → IsG
 not-out script S t rows h = by (thread_of S t) refl h.left
   where
     by : (x : Option ThreadRow) → thread_of S t ≡ x → row_bit stage_left x ≡ 0 → (S.mode.shared && is_returning (part_of x)) ≡ false
-    by None is left = both-false S.mode.shared false refl
-    by (Some row) is left = both-false S.mode.shared (is_returning row.part) (rows.references.spent.rows t.0 row is (not-left row.stage left)).going
+    by None is left = and_right S.mode.shared false refl
+    by (Some row) is left = and_right S.mode.shared (is_returning row.part) (rows.references.spent.rows t.0 row is (not-left row.stage left)).going
 
-able_or : (a b : Bool) → b ≡ false → (a || b) ≡ true → a ≡ true
+pub able_or : (a b : Bool) → b ≡ false → (a || b) ≡ true → a ≡ true
 able_or true b none may = refl
 able_or false true none may = cc
 able_or false false none may = may
@@ -229,9 +220,7 @@ no-action script S t (Thread u) rows h able = by (u.0 == t.0) refl
         let none = no-task script S t rows h in
         let some = ready.1 in absurd (cc)
 no-action script S t (Irq k) rows h able = refl
-no-action script S t Idfc rows h able = refl
-no-action script S t Tick rows h able = refl
-no-action script S t Idle rows h able = refl
+no-action script S t _ rows h able = refl
 
 -- it stays so
 gone-entry : (script : Script) (S : State) (place : ℕ) (e : Entry) (t : ObjNo) → IsShaped script → AreRows script S

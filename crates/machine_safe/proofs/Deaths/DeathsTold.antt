@@ -1,5 +1,5 @@
 -- What moves tell of deaths, in one record, and its composition.
-use Rattle.std.proofs.Common.{◌≡◌, ℕ, ◌+◌, ◌≤◌, List, ◌++◌, arith, ap, ◌∙◌, Option, Some, None, true, get_or, [], ◌∷◌, suc, refl, Bool, false}
+use Rattle.std.proofs.Common.{◌≡◌, ℕ, ◌+◌, ◌≤◌, List, ◌++◌, arith, ap, ◌∙◌, Option, Some, None, true, get_or, refl, Bool, false}
 use Rattle.sym_base.specs.declared.number.ObjNo.{ObjNo}
 use Rattle.entry_log.specs.declared.effect.Effect.{Effect}
 use Rattle.entry_log.specs.declared.effect.Holder.{Holder}
@@ -22,6 +22,7 @@ use Rattle.entry_log.specs.declared.effect.Holder.TheVariants.{InProcess, InThre
 use Rattle.machine.specs.Holdings.{left_of}
 use Rattle.machine.specs.References.{total}
 use Rattle.move_laws.proofs.References.Same.{same_object}
+use Rattle.move_laws.proofs.Lists.Totals.{total-below}
 
 -- how often a thread has a lock
 abbrev pub lock_bit : List (Option ObjNo) → List (List ObjNo) → ObjNo → LockNo → ℕ
@@ -67,11 +68,6 @@ pub record Dies (S T : State) (effects : List Effect) : Type 0 where
   pub were : (k : ℕ) (row : ThreadRow) → get_or T.references.threads k None ≡ Some row → WasIn S.references.threads k row
 
 -- no process has more threads that are left
-total-below : {A : Type 0} (f : A → ℕ) (xs ys : List A) (d : A) → f d ≡ 0 → ((j : ℕ) → f (get_or ys j d) ≤ f (get_or xs j d)) → total f ys ≤ total f xs
-total-below f xs [] d none le = omega arith
-total-below f [] (y ∷ ys) d none le = let first : f y ≤ f d = le 0 in let rest : total f ys ≤ 0 = total-below f [] ys d none (λ j. le (suc j)) in omega arith
-total-below f (x ∷ xs) (y ∷ ys) d none le = let first : f y ≤ f x = le 0 in let rest = total-below f xs ys d none (λ j. le (suc j)) in omega arith
-
 left-below : (S T : State) (effects : List Effect) (p : ObjNo) → Dies S T effects
     → total (left_of p) T.references.threads ≤ total (left_of p) S.references.threads
 left-below S T effects p h = total-below (left_of p) S.references.threads T.references.threads None refl (λ k. by k (get_or T.references.threads k None) refl)
@@ -136,6 +132,16 @@ pub record IsCalm (effects : List Effect) : Type 0 where
   pub takes : (t : ObjNo) (lock : LockNo) → takes effects t lock ≡ 0
   pub gives : (t : ObjNo) (lock : LockNo) → gives effects t lock ≡ 0
   pub signals : (t : ObjNo) → signals effects t ≡ 0
+
+pub calm_of : {effects : List Effect} → ((t : ObjNo) → ◌≡◌ {A = ℕ × ℕ × ℕ} (dooms effects t, burials effects t, signals effects t) (0, 0, 0))
+    → ((t : ObjNo) (lock : LockNo) → ◌≡◌ {A = ℕ × ℕ} (takes effects t lock, gives effects t lock) (0, 0)) → IsCalm effects
+calm_of ends locks = record {
+  dooms = λ t. ap (λ (n : ℕ × ℕ × ℕ). n.0) (ends t);
+  burials = λ t. ap (λ (n : ℕ × ℕ × ℕ). n.1) (ends t);
+  takes = λ t lock. ap (λ (n : ℕ × ℕ). n.0) (locks t lock);
+  gives = λ t lock. ap (λ (n : ℕ × ℕ). n.1) (locks t lock);
+  signals = λ t. ap (λ (n : ℕ × ℕ × ℕ). n.2) (ends t);
+}
 
 -- moves that leave stages and locks
 pub dies-calm : (S T : State) (effects : List Effect) → KeepsRows S.references.threads T.references.threads

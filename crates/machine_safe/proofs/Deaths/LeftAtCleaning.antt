@@ -1,5 +1,5 @@
 -- As a thread is cleaned it has given all locks back, and no reference of its own is left.
-use Rattle.std.proofs.Common.{◌≡◌, ℕ, zero, suc, List, [], ◌∷◌, get_or, arith, refl, sym, ap, subst, ◌∙◌, Option, Some, None, Bool, true, false}
+use Rattle.std.proofs.Common.{◌≡◌, ℕ, List, [], get_or, arith, refl, sym, ap, subst, ◌∙◌, Option, Some, None, Bool, true, false}
 use Rattle.std.specs.Prelude.{◌==◌, if◌then◌else◌, is_some, not}
 use Rattle.std.proofs.lemmas.Bool.{eq-eqb, eqb-true}
 use Rattle.sym_base.specs.declared.number.ObjNo.{ObjNo}
@@ -10,12 +10,11 @@ use Rattle.entry_log.specs.declared.effect.Holder.TheVariants.{InProcess, InThre
 use Rattle.entry_log.specs.declared.effect.LockNo.{LockNo}
 use Rattle.entry_log.specs.declared.effect.LockNo.TheVariants.{Object, Fast}
 use Rattle.entry_log.specs.declared.entry.Entry.{Entry}
-use Rattle.state_rows.specs.declared.handle_slot.HandleSlot.{HandleSlot}
 use Rattle.state_rows.specs.HandleSlots.{slot_at}
 use Rattle.state_rows.specs.declared.thread.ThreadRow.{ThreadRow}
 use Rattle.machine.specs.declared.state.State.{State}
 use Rattle.machine.specs.Boot.{boot_in}
-use Rattle.machine.specs.HeldIn.{held_in, own_slot, owed_by, use_names}
+use Rattle.machine.specs.HeldIn.{held_in, owed_by, use_names}
 use Rattle.machine.specs.History.{after_in, choosing, IsLegalIn}
 use Rattle.machine.specs.Holdings.{held_handles, left_of, process_handles, stage_left}
 use Rattle.machine.specs.References.{mutex_names, option_names, total}
@@ -37,6 +36,8 @@ use Rattle.machine_safe.proofs.Deaths.OnceEach.{Cleans, cleaned-left, cleans-her
 use Rattle.machine_safe.proofs.Deaths.Rows.{row_bit, stage_live}
 use Rattle.machine_safe.proofs.Held.{held_as_told}
 use Rattle.script_types.proofs.ShapeLaws.{formed_is_shaped}
+use Rattle.move_laws.proofs.MoveLaws.Gains.{empty_slot}
+use Rattle.move_laws.proofs.Lists.Totals.{total-only}
 
 -- a thread that is doomed, owes nothing and has nothing left
 pub record IsEmpty (S : State) (t : ObjNo) : Type 0 where
@@ -70,16 +71,11 @@ unlocked : (script : Script) (S : State) (t : ObjNo) (lock : LockNo) → AreRows
 unlocked script S t (Object o) rows h = ap (total (mutex_names o)) h.has.mutexes
 unlocked script S t (Fast f) rows h = unheld script S t f rows h.dead
 
--- a slot without an object names none
-no-slot-names : (b : Bool) (x : ObjNo) (slot : HandleSlot) → slot.object ≡ None → own_slot b x slot ≡ 0
-no-slot-names true x slot e = refl
-no-slot-names false x slot e = ap (option_names x) e
-
 -- and no reference of its own
 unheld-own : (script : Script) (S : State) (t : ObjNo) (h : Holder) (o : ObjNo) → AreRows script S → IsEmpty S t → is_own t h ≡ true → held_in S h o ≡ 0
 unheld-own script S t (InThread u i) o rows h own =
     let at : t ≡ u = sym (same_object u t (eqb-true u.0 t.0 own)) in
-    let slot = no-slot-names (not (is_some (thread_of S u))) o (slot_at (table_of S u) i)
+    let slot = empty_slot (not (is_some (thread_of S u))) o (slot_at (table_of S u) i)
     (ap (λ (v : ObjNo). (slot_at (table_of S v) i).object) (sym at) ∙ h.has.empty i) in
     let owed = none_owed S.references.threads S.serving.servers S.serving.messages.accepted S.references.owed
     (InThread u i) o rows.references.duties (λ k y later behind own. own) in
@@ -103,19 +99,6 @@ unheld-own script S t (Own u) o rows h own =
     (ap (λ (v : ObjNo). total (owed_by (Own u) o) (owed_of S v)) (sym at) ∙ ap (total (owed_by (Own u) o)) h.paid) in
     omega arith
 unheld-own script S t _ o rows h own = absurd (cc)
-
--- numbers that are all 0
-pub total-none : {A : Type 0} (f : A → ℕ) (xs : List A) (d : A) → ((j : ℕ) → f (get_or xs j d) ≡ 0) → total f xs ≡ 0
-total-none f [] d none = refl
-total-none f (x ∷ xs) d none = let first : f x ≡ 0 = none zero in let rest = total-none f xs d (λ j. none (suc j)) in omega arith
-
--- one number of a list that alone isn't 0
-total-only : {A : Type 0} (f : A → ℕ) (xs : List A) (i : ℕ) (d : A) → f d ≡ 0 → ((j : ℕ) → (j ≡ i → ⊥) → f (get_or xs j d) ≡ 0) → total f xs ≡ f (get_or xs i d)
-total-only f [] i d none others = sym none
-total-only f (x ∷ xs) zero d none others = let rest = total-none f xs d (λ j. others (suc j) (λ e. absurd (omega arith))) in omega arith
-total-only f (x ∷ xs) (suc i) d none others =
-    let first : f x ≡ 0 = others zero (λ e. absurd (omega arith)) in
-    let rest = total-only f xs i d none (λ j apart. others (suc j) (λ e. apart (omega arith))) in omega arith
 
 -- no other thread of its process is left, where the others were cleaned
 pub alone : (shared : Bool) (script : Script) (before : List Entry) (t : ObjNo) (row : ThreadRow) → IsWellFormed script
@@ -160,7 +143,7 @@ handles-none S t p only none =
 table-free : {script : Script} (S : State) (p : ObjNo) (i : ℕ) (o : ObjNo) → (slot_at (table_of S p) i).object ≡ None
     → AreRows script S → held_in S (InProcess p i) o ≡ 0
 table-free S p i o none rows =
-    let slot = no-slot-names (is_some (thread_of S p)) o (slot_at (table_of S p) i) none in
+    let slot = empty_slot (is_some (thread_of S p)) o (slot_at (table_of S p) i) none in
     let owed = none_owed S.references.threads S.serving.servers S.serving.messages.accepted S.references.owed
     (InProcess p i) o rows.references.duties (λ k y later behind own. own) in
     omega arith

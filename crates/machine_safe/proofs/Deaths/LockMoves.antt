@@ -38,10 +38,10 @@ use Rattle.move_laws.proofs.Lives.LivesMove.{zero_or}
 use Rattle.move_laws.proofs.MoveLaws.LockMoves.{IsOwn, freed_by, passed_by}
 use Rattle.move_laws.proofs.Readiness.FirstReady.{greatest_listed}
 use Rattle.move_laws.proofs.References.Mutexes.{held-holding, held-not_holding}
-use Rattle.move_laws.proofs.References.Same.{eqb_apart, if_is, if_not, same_is, same_object}
+use Rattle.move_laws.proofs.References.Same.{eqb_apart, if_is, if_not, same_is, same_object, if_zero}
 use Rattle.move_laws.proofs.RowLaws.Locks.{thread_inside}
 use Rattle.machine_safe.specs.SafeDeaths.{burials, dooms, gives, is_lock, signals, takes}
-use Rattle.machine_safe.proofs.Deaths.DeathsTold.{Dies, GainsNone, IsBarred, IsCalm, dies-calm, lock_bit}
+use Rattle.machine_safe.proofs.Deaths.DeathsTold.{Dies, GainsNone, IsBarred, IsCalm, dies-calm, lock_bit, calm_of}
 use Rattle.machine_safe.proofs.Deaths.Rows.{keeps-same, live-left, row_bit, stage_live}
 use Rattle.machine_safe.proofs.Held.{is_holder_is}
 
@@ -54,10 +54,6 @@ only-live S w t live none = zero_or (same w t) (λ some.
     let one : row_bit stage_live (thread_of S t)
     ≡ 1 = ap (λ (x : ObjNo). row_bit stage_live (thread_of S x)) (sym (same_is w t some)) ∙ live-one S w live in
     absurd (omega arith))
-
-chosen-zero : (b : Bool) (n : ℕ) → n ≡ 0 → (if b then n else 0) ≡ 0
-chosen-zero true n e = e
-chosen-zero false n e = refl
 
 -- an ownership of a live thread gets something
 pub gains-own : (S : State) (w o : ObjNo) → IsLiveThread S.references.threads w → (h : Holder) (x : ObjNo) → IsBarred S h → same_pair (Own w) o h x ≡ 0
@@ -110,7 +106,7 @@ bit-given holders f g t u inside holds =
     ]
 
 pub calm-none : IsCalm []
-calm-none = record { dooms = λ t. refl; burials = λ t. refl; takes = λ t lock. refl; gives = λ t lock. refl; signals = λ t. refl }
+calm-none = calm_of (λ t. refl) (λ t lock. refl)
 
 pub dies-nano : (script : Script) (S : State) (t : ObjNo) (m : NanoMove) → FitsMove script t (Nano m) S → Dies S (moved t (Nano m) S) (nano_told m)
 dies-nano script S t (Take u f) fits = record {
@@ -119,7 +115,7 @@ dies-nano script S t (Take u f) fits = record {
   held = λ v. omega arith;
   locks = locks;
   takes_none =
-      λ v lock none. let a = chosen-zero (is_lock (Fast f) lock) (same u v)
+      λ v lock none. let a = if_zero (is_lock (Fast f) lock) (same u v)
       (only-live S u v (let may = fits.1.2 in record { row = may.row; is = may.is; live = may.live }) none) in
       omega arith;
   signals_none = λ v none. refl;
@@ -163,16 +159,21 @@ dies-nano script S t m fits = dies-calm S (moved t (Nano m) S) [] (keeps-same S.
 
 -- the same test twice, in either order
 swapped : (a b : Bool) → ◌≡◌ {A = ℕ} (if a then (if b then 1 else 0) else 0) (if b then (if a then 1 else 0) else 0)
-swapped true true = refl
-swapped true false = refl
-swapped false true = refl
-swapped false false = refl
+swapped true b = refl
+swapped false b = sym (if_zero b 0 refl)
 
 -- effects that tell of no death and of no signal
 record IsQuiet (effects : List Effect) : Type 0 where
   pub dooms : (t : ObjNo) → dooms effects t ≡ 0
   pub burials : (t : ObjNo) → burials effects t ≡ 0
   pub signals : (t : ObjNo) → signals effects t ≡ 0
+
+quiet_of : {effects : List Effect} → ((t : ObjNo) → ◌≡◌ {A = ℕ × ℕ × ℕ} (dooms effects t, burials effects t, signals effects t) (0, 0, 0)) → IsQuiet effects
+quiet_of ends = record {
+  dooms = λ t. ap (λ (n : ℕ × ℕ × ℕ). n.0) (ends t);
+  burials = λ t. ap (λ (n : ℕ × ℕ × ℕ). n.1) (ends t);
+  signals = λ t. ap (λ (n : ℕ × ℕ × ℕ). n.2) (ends t);
+}
 
 -- mutexes, what is owed, and the rows of mutexes change; one who isn't live takes none, and gets no reference of its own
 record Passes (S : State) (mutexes : List (List ObjNo)) (effects : List Effect) : Type 0 where
@@ -211,10 +212,10 @@ dies-passed S new mutexes owed effects h = record {
 passes-taken : (S : State) (w o : ObjNo) → w.0 < length S.synchronization.mutexes → IsLiveThread S.references.threads w
     → Passes S (holding S.synchronization.mutexes w o) (effect.Take w (Object o) ∷ effect.Plus (Own w) o ∷ [])
 passes-taken S w o inside live = record {
-  quiet = record { dooms = λ t. refl; burials = λ t. refl; signals = λ t. refl };
+  quiet = quiet_of (λ t. refl);
   locks = λ t x. let a = held-holding S.synchronization.mutexes w o t x inside in let b = swapped (w.0 == t.0) (o.0 == x.0) in omega arith;
   fast = λ t f. refl;
-  takes_none = λ t lock none. let a = chosen-zero (is_lock (Object o) lock) (same w t) (only-live S w t live none) in omega arith;
+  takes_none = λ t lock none. let a = if_zero (is_lock (Object o) lock) (same w t) (only-live S w t live none) in omega arith;
   gains_none = λ h x none. let a = gains-own S w o live h x none in omega arith;
 }
 
@@ -223,7 +224,7 @@ passes-freed : (S : State) (t o : ObjNo) → t.0 < length S.synchronization.mute
     → times_held S.synchronization.mutexes t o ≡ 1
     → Passes S (not_holding S.synchronization.mutexes t o) (effect.Give t (Object o) ∷ [])
 passes-freed S t o inside once = record {
-  quiet = record { dooms = λ t. refl; burials = λ t. refl; signals = λ t. refl };
+  quiet = quiet_of (λ t. refl);
   locks = λ u x. let a = held-not_holding S.synchronization.mutexes t o u x inside once in let b = swapped (t.0 == u.0) (o.0 == x.0) in omega arith;
   fast = λ t f. refl;
   takes_none = λ t lock none. refl;
@@ -237,7 +238,7 @@ passes-given : (S : State) (t o w : ObjNo) → t.0 < length S.synchronization.mu
     → Passes S (holding (not_holding S.synchronization.mutexes t o) w o)
     (effect.Give t (Object o) ∷ effect.Take w (Object o) ∷ effect.Plus (Own w) o ∷ [])
 passes-given S t o w inside once waiter live = record {
-  quiet = record { dooms = λ t. refl; burials = λ t. refl; signals = λ t. refl };
+  quiet = quiet_of (λ t. refl);
   locks = λ u x.
       let a = held-not_holding S.synchronization.mutexes t o u x inside once in
       let b = held-holding (not_holding S.synchronization.mutexes t o) w o u x
@@ -246,14 +247,14 @@ passes-given S t o w inside once waiter live = record {
       let c = swapped (t.0 == u.0) (o.0 == x.0) in
       let d = swapped (w.0 == u.0) (o.0 == x.0) in omega arith;
   fast = λ t f. refl;
-  takes_none = λ t lock none. let a = chosen-zero (is_lock (Object o) lock) (same w t) (only-live S w t live none) in omega arith;
+  takes_none = λ t lock none. let a = if_zero (is_lock (Object o) lock) (same w t) (only-live S w t live none) in omega arith;
   gains_none = λ h x none. let a = gains-own S w o live h x none in omega arith;
 }
 
 -- nothing is taken or given
 passes-none : (S : State) → Passes S S.synchronization.mutexes []
 passes-none S = record {
-  quiet = record { dooms = λ t. refl; burials = λ t. refl; signals = λ t. refl };
+  quiet = quiet_of (λ t. refl);
   locks = λ t x. refl;
   fast = λ t f. refl;
   takes_none = λ t lock none. refl;

@@ -45,7 +45,7 @@ use Rattle.state_rows.specs.MessageChanges.{next_number}
 use Rattle.state_rows.specs.declared.requests.RequestRows.{RequestRows}
 use Rattle.move_laws.proofs.MoveLaws.Pays.{sweep-unheld}
 use Rattle.move_laws.proofs.References.Same.{if_zero}
-use Rattle.machine_safe.proofs.Deaths.DeathsTold.{Dies, GainsNone, IsBarred, IsCalm, dies-calm}
+use Rattle.machine_safe.proofs.Deaths.DeathsTold.{Dies, GainsNone, IsBarred, IsCalm, dies-calm, calm_of}
 use Rattle.machine_safe.proofs.Deaths.LockMoves.{calm-none, dies-locks, dies-nano, gains-own, only-live}
 use Rattle.machine_safe.proofs.Deaths.Rows.{KeepsRows, bit-less, bit-swept, held-is, keeps-same, keeps-then, keeps-with_row, left-held, live-left, row_bit, stage_live, were-swept, were-with_row}
 use Rattle.machine_safe.proofs.Held.{is_holder_is}
@@ -95,26 +95,26 @@ keeps-move script S t _ fits other = keeps-same S.references.threads
 
 -- effects that tell of references alone
 calm-plus : (h : Holder) (o : ObjNo) → IsCalm (effect.Plus h o ∷ [])
-calm-plus h o = record { dooms = λ t. refl; burials = λ t. refl; takes = λ t lock. refl; gives = λ t lock. refl; signals = λ t. refl }
+calm-plus h o = calm_of (λ t. refl) (λ t lock. refl)
 
 calm-close : (last : Bool) (h : Holder) (o : ObjNo) → IsCalm (closed_effects last h o)
-calm-close true h o = record { dooms = λ t. refl; burials = λ t. refl; takes = λ t lock. refl; gives = λ t lock. refl; signals = λ t. refl }
-calm-close false h o = record { dooms = λ t. refl; burials = λ t. refl; takes = λ t lock. refl; gives = λ t lock. refl; signals = λ t. refl }
+calm-close true h o = calm_of (λ t. refl) (λ t lock. refl)
+calm-close false h o = calm_of (λ t. refl) (λ t lock. refl)
 
 calm-found : (o : ObjNo) → IsCalm (effect.Seek o ∷ [])
-calm-found o = record { dooms = λ t. refl; burials = λ t. refl; takes = λ t lock. refl; gives = λ t lock. refl; signals = λ t. refl }
+calm-found o = calm_of (λ t. refl) (λ t lock. refl)
 
 calm-missed : (o : ObjNo) → IsCalm (effect.Missed o ∷ [])
-calm-missed o = record { dooms = λ t. refl; burials = λ t. refl; takes = λ t lock. refl; gives = λ t lock. refl; signals = λ t. refl }
+calm-missed o = calm_of (λ t. refl) (λ t lock. refl)
 
 calm-accepted : (n : MsgNo) (s u : ObjNo) → IsCalm (effect.Accept n ∷ effect.Plus (Message n) s ∷ effect.Plus (Message n) u ∷ [])
-calm-accepted n s u = record { dooms = λ t. refl; burials = λ t. refl; takes = λ t lock. refl; gives = λ t lock. refl; signals = λ t. refl }
+calm-accepted n s u = calm_of (λ t. refl) (λ t lock. refl)
 
 calm-finished : (n : MsgNo) (code : ℤ) → IsCalm (effect.Finish n code ∷ [])
-calm-finished n code = record { dooms = λ t. refl; burials = λ t. refl; takes = λ t lock. refl; gives = λ t lock. refl; signals = λ t. refl }
+calm-finished n code = calm_of (λ t. refl) (λ t lock. refl)
 
 calm-ended : (o : ObjNo) → IsCalm (effect.Terminated o ∷ [])
-calm-ended o = record { dooms = λ t. refl; burials = λ t. refl; takes = λ t lock. refl; gives = λ t lock. refl; signals = λ t. refl }
+calm-ended o = calm_of (λ t. refl) (λ t lock. refl)
 
 -- a close gives nobody a reference
 close-gains : (S : State) (last : Bool) (h : Holder) (o : ObjNo) → GainsNone S (closed_effects last h o)

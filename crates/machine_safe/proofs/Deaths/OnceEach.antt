@@ -45,10 +45,7 @@ pub record Cleans (script : Script) (S : State) (e : Entry) (t : ObjNo) : Type 0
 
 pub actor-is : (t : ObjNo) (actor : Actor) → is_by t actor ≡ true → actor ≡ Thread t
 actor-is t (Thread u) e = ap Thread (same_object u t (eqb-true u.0 t.0 e))
-actor-is t (Irq k) e = cc
-actor-is t Idfc e = cc
-actor-is t Tick e = cc
-actor-is t Idle e = cc
+actor-is t _ e = cc
 
 pub step-of : (script : Script) (S : State) (t : ObjNo) → (act script S t).outcome.step ≡ (decision_of script S t).step
 unfolding act

@@ -22,9 +22,7 @@ row_bit b (Some row) = b row.stage
 -- 1 where a thread is live
 abbrev pub stage_live : Stage → ℕ
 stage_live Live = 1
-stage_live Doomed = 0
-stage_live Cleaned = 0
-stage_live Buried = 0
+stage_live _ = 0
 
 -- who is live isn't cleaned, and who isn't cleaned isn't buried
 pub live-left : (x : Option ThreadRow) → row_bit stage_live x ≤ row_bit stage_left x

@@ -1,5 +1,5 @@
 -- A process has no handles where none of its threads is left.
-use Rattle.std.proofs.Common.{◌≡◌, inl, inr, ℕ, suc, ◌<◌, List, [], ◌∷◌, length, get_or, set, arith, refl, sym, ap, subst, ◌∙◌, Option, Some, None, Bool, true, false}
+use Rattle.std.proofs.Common.{◌≡◌, inl, inr, ℕ, ◌<◌, List, [], ◌∷◌, length, get_or, set, arith, refl, sym, ap, subst, ◌∙◌, Option, Some, None, Bool, true, false}
 use Rattle.std.specs.Prelude.{◌==◌, if◌then◌else◌, is_some, option_map}
 use Rattle.std.proofs.lemmas.Bool.{cases_eq, cases_lt, eqb-true}
 use Rattle.std.proofs.lemmas.List.{get_or-set_other, set_past}
@@ -29,12 +29,12 @@ use Rattle.machine.specs.Kept.{dies}
 use Rattle.machine.specs.Rows.{owed_of, thread_of, with_row}
 use Rattle.machine.specs.WellFormed.{AreRows}
 use Rattle.move_laws.proofs.Holders.ThreadRows.{row-here, row-other}
-use Rattle.move_laws.proofs.Lists.Totals.{total-set, total-with}
+use Rattle.move_laws.proofs.Lists.Totals.{total-set, total-with, total-same}
 use Rattle.move_laws.proofs.MoveLaws.DeathMoves.{row-is}
 use Rattle.move_laws.proofs.MoveLaws.Pays.{sweep-unheld}
 use Rattle.move_laws.proofs.References.Same.{if_zero, same_object}
 use Rattle.machine_safe.proofs.Deaths.CleanedIdle.{not-left}
-use Rattle.machine_safe.proofs.Deaths.LeftAtCleaning.{handles-none, total-none}
+use Rattle.machine_safe.proofs.Deaths.LeftAtCleaning.{handles-none}
 use Rattle.machine_safe.proofs.Deaths.Moves.{is_death, keeps-closed, keeps-move}
 use Rattle.machine_safe.proofs.Deaths.Rows.{KeepsRows, held-is, left-held, row_bit}
 
@@ -71,11 +71,6 @@ left-with_row threads u f stage process = record {
 there-too : (x : Option ThreadRow) → row_bit (λ _. 1) x ≡ 0 → x ≡ None
 there-too None e = refl
 there-too (Some row) e = absurd (omega arith)
-
-total-same : {A : Type 0} (f : A → ℕ) (xs ys : List A) (d : A) → f d ≡ 0 → ((j : ℕ) → f (get_or ys j d) ≡ f (get_or xs j d)) → total f ys ≡ total f xs
-total-same f [] ys d none same = total-none f ys d (λ j. same j ∙ none)
-total-same f (x ∷ xs) [] d none same = sym (total-none f (x ∷ xs) d (λ j. sym (same j) ∙ none))
-total-same f (x ∷ xs) (y ∷ ys) d none same = let first : f y ≡ f x = same 0 in let rest = total-same f xs ys d none (λ j. same (suc j)) in omega arith
 
 left-rows : (threads other : List (Option ThreadRow)) → KeepsRows threads other → KeepsLeft threads other
 left-rows threads other h = record { left = λ p. total-same (left_of p) threads other None refl (λ k. by p k (get_or other k None) refl); none = none }

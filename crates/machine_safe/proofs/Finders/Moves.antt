@@ -19,8 +19,8 @@ use Rattle.move_laws.proofs.Lives.Bits.{there_inside}
 use Rattle.move_laws.proofs.References.Same.{if_le, same_object}
 use Rattle.machine_laws.proofs.Sharing.Seekers.{turning_bit, seeks-same, seeks-pay, unseen}
 use Rattle.machine_laws.proofs.Fitting.Regular.{find_bit, going_bit}
-use Rattle.machine_laws.proofs.Fitting.Stepping.{later_other}
 use Rattle.machine_safe.proofs.Serving.ActionMoves.{Doing, IsGoing, going-then}
+use Rattle.move_laws.proofs.MoveLaws.Gains.{later_goes}
 
 -- this is one of those by which a thread goes on
 turning-le : (m : Move) → turning_bit m ≤ going_bit m
@@ -60,7 +60,7 @@ seeks-le script S t (Open v x part) fits rows o place =
     let back = fits.0.back in
     let away = unseen (Some (with_opened x part back.row)) o place
     (λ row is. let e : with_opened x part back.row ≡ row = cc in
-    ap (λ (r : ThreadRow). is_returning r.part) (sym e) ∙ later_other (Some part) fits.0.later) in
+    ap (λ (r : ThreadRow). is_returning r.part) (sym e) ∙ later_goes (Some part) fits.0.later) in
     let gone = ap (seeks o place) (changed S.references.threads v (with_opened x part) t back.row fits.1 back.is) in
     omega arith
 seeks-le script S t (Miss v x) fits rows o place =

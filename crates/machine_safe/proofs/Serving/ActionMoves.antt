@@ -25,7 +25,7 @@ use Rattle.move_laws.proofs.MoveLaws.Run.{sane-after, sound-move, weight-move}
 use Rattle.script_types.specs.Shape.{IsShaped}
 use Rattle.script_types.specs.declared.script.Script.{Script}
 use Rattle.state_rows.specs.declared.duty.Owed.{Owed}
-use Rattle.std.proofs.Common.{List, [], ap, append_assoc, arith, inl, inr, refl, subst, sym, ◌++◌, ◌+◌, ◌<◌, ◌∙◌, ◌∷◌, ◌≡◌, ◌≤◌, ◌⊎◌}
+use Rattle.std.proofs.Common.{List, [], ap, arith, inl, inr, refl, subst, sym, ◌++◌, ◌+◌, ◌<◌, ◌∷◌, ◌≡◌, ◌≤◌, ◌⊎◌}
 use Rattle.std.proofs.lemmas.List.{append-nil}
 use Rattle.sym_base.specs.declared.number.ObjNo.{ObjNo}
 
@@ -115,17 +115,6 @@ lost-doing script S t ms v does rows = elim does as (λ _. handles_lost (tell t 
     | inr nothing ↦ subst (λ (l : List Move). handles_lost (tell t l S) v ≤ total (lost_bit v) l) (sym nothing) (omega arith)
   ]
 ]
-
--- several moves, in two parts
-pub perform-append : (t : ObjNo) (xs ys : List Move) (S : State) → perform t (xs ++ ys) S ≡ perform t ys (perform t xs S)
-perform-append t [] ys S = refl
-perform-append t (m ∷ xs) ys S = perform-append t xs ys (moved t m S)
-
-pub tell-append : (t : ObjNo) (xs ys : List Move) (S : State) → tell t (xs ++ ys) S ≡ tell t xs S ++ tell t ys (perform t xs S)
-tell-append t [] ys S = refl
-tell-append t (m ∷ xs) ys S =
-    ap (λ (l : List Effect). told m S ++ l) (tell-append t xs ys (moved t m S))
-    ∙ sym (append_assoc (told m S) (tell t xs (moved t m S)) (tell t ys (perform t xs (moved t m S))))
 
 pub fits-front : (script : Script) (t : ObjNo) (xs ys : List Move) (S : State) → EachFits script t (xs ++ ys) S
     → EachFits script t xs S × EachFits script t ys (perform t xs S)

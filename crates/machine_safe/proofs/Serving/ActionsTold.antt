@@ -32,7 +32,6 @@ use Rattle.machine.specs.Messaging.{open_server, slots_of, slots_of_row}
 use Rattle.machine.specs.Rows.{object_of, thread_of}
 use Rattle.machine_laws.proofs.Fitting.LiveObjects.{use_is_alive}
 use Rattle.machine_laws.proofs.Fitting.SentMessages.{linked_server, open_session}
-use Rattle.machine_safe.proofs.Serving.SendingSteps.{open_is}
 use Rattle.machine_safe.proofs.Serving.SessionSlots.{Slotted, slotted-keeps, used-is}
 use Rattle.machine_safe.specs.CountAfter.{effects_of}
 use Rattle.machine_safe.specs.SafeBusy.{IsSendAnswer, accepted_of, accepts_in, answer_of, is_full_in, is_there}
@@ -47,6 +46,7 @@ use Rattle.machine_safe.specs.Sent.{answers, at_place, instruction_in}
 use Rattle.state_rows.specs.declared.thread.Role.{Role}
 use Rattle.state_rows.specs.declared.thread.ThreadRow.{ThreadRow}
 use Rattle.std.specs.Prelude.{slice_get}
+use Rattle.machine_safe.proofs.Serving.ProperLists.{open-accepts}
 
 -- servers, sessions, threads and messages are as a history tells
 pub record Book (script : Script) (before : List Entry) (S : State) : Type 0 where
@@ -213,7 +213,7 @@ refused-answer script before S place t d rows book looked over none r = record {
     alive = use_is_alive S t r.over.row r.session rows.lives r.over.is r.over.uses
 
     accepting : (o : ObjNo) → open_server S r.session ≡ Some o → told ≡ true
-    accepting o e = accepting-told script before S r.session o rows book (linked_server S r.session o e) (open_is S r.session o e)
+    accepting o e = accepting-told script before S r.session o rows book (linked_server S r.session o e) (open-accepts S r.session o e)
 
     is_busy : (o : ObjNo) → open_server S r.session ≡ Some o → is_full S.serving.messages r.session (slots_of S r.session) ≡ true → full ≡ true
     is_busy o e is = full-told script before S r.session book (open_session S r.session o e) ∙ is

@@ -35,9 +35,9 @@ use Rattle.move_laws.proofs.Holders.ThreadRows.{row-here, row-other}
 use Rattle.move_laws.proofs.Lists.Contents.{contains_behind, contains_cases, contains_first, none_contained}
 use Rattle.move_laws.proofs.Lists.Totals.{total-append}
 use Rattle.move_laws.proofs.References.Same.{same_object, same_self}
-use Rattle.move_laws.proofs.RowLaws.Declared.{all-both}
 use Rattle.move_laws.proofs.RowLaws.Rising.{found_one, one_goes}
 use Rattle.machine.specs.Rows.{with_row}
+use Rattle.move_laws.proofs.Lists.Each.{all-both}
 
 -- 1 for a message of a server that isn't taken
 abbrev pub untaken_bit : ObjNo → Message → ℕ

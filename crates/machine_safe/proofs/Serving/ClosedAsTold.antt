@@ -16,9 +16,8 @@ use Rattle.machine_safe.proofs.Serving.EffectSums.{server_told-append}
 use Rattle.machine_safe.proofs.Serving.KeptServers.{Keeps, steps_of}
 use Rattle.machine_safe.proofs.Serving.KeptRows.{at-closed, closing-was, link-closed, objects-closed}
 use Rattle.machine_safe.proofs.Serving.ServerReading.{Reading, ends_by, further, is_over_by, joined-none, made-none, made_by, owner-on, remade-on}
-use Rattle.machine_safe.proofs.Serving.ServersAsTold.{IsServed, Served, bit-is, bit-none, bit-some, closing-count, closings-on, closings_by, ends-on, over-on}
+use Rattle.machine_safe.proofs.Serving.ServersAsTold.{IsServed, Served, bit-is, bit-none, bit-some, closing-count, closings-on, closings_by, ends-on, over-on, served-beside}
 use Rattle.machine_safe.proofs.Serving.MovesTold.{unlinking-close, close-lost}
-use Rattle.machine_safe.specs.SafeDeaths.{dooms}
 use Rattle.machine_safe.specs.Served.{handles_lost, or_before, server_told}
 use Rattle.move_laws.proofs.References.Mutexes.{held-not_holding}
 use Rattle.move_laws.proofs.References.Same.{eqb_apart, if_is, if_not, if_zero, same_object, same_self}
@@ -33,15 +32,12 @@ use Rattle.sym_base.specs.declared.number.ObjNo.{ObjNo}
 use Rattle.machine_safe.proofs.Serving.ThreadActions.{undetached}
 use Rattle.machine_safe.proofs.Serving.KeptUses.{alive-closed, linked-closed, session-closed}
 use Rattle.machine.specs.EntryWords.{is_handle, makes_server}
+use Rattle.machine_safe.proofs.Serving.DoomsTold.{unfated-close}
 
 -- what a close of a handle tells
 closed-lost : (last : Bool) (h : Holder) (o v : ObjNo) → is_handle h ≡ true → handles_lost (closed_effects last h o) v ≡ same o v
 closed-lost true h o v is = let a = ap (λ (b : Bool). if b then same o v else 0) is in omega arith
 closed-lost false h o v is = let a = ap (λ (b : Bool). if b then same o v else 0) is in omega arith
-
-pub closed-dooms : (last : Bool) (h : Holder) (o v : ObjNo) → dooms (closed_effects last h o) v ≡ 0
-closed-dooms true h o v = refl
-closed-dooms false h o v = refl
 
 opposite : (a b : Bool) → (a ≡ true → b ≡ true) → b ≡ false → a ≡ false
 opposite false b f e = refl
@@ -69,14 +65,11 @@ module _ (script : Script) (r : Reading) (S : State) (t : ObjNo) (done : Step) (
     owner_same : (o : ObjNo) → now_told.owner o ≡ r.owner o
     owner_same o = owner-on r done fs (steps_of t (Lose holder v ∷ [])) o (unmade_now o)
 
-    same_ends : (o : ObjNo) → ends_by now_told o ≡ ends_by r o
-    same_ends o = let a = ends-on r done fs (steps_of t (Lose holder v ∷ [])) o (unmade_now o) in let b = k.unended o in omega arith
-
     closings_now : (o w : ObjNo) → closings_by now_told o w ≡ closings_by r o w + same v o
     closings_now o w =
         let a = closings-on r done fs (steps_of t (Lose holder v ∷ [])) o w (unmade_now o) in
         let b = closed-lost (dies (begun v) v) holder v o handle in
-        let c = closed-dooms (dies (begun v) v) holder v w in
+        let c = unfated-close (dies (begun v) v) holder v w in
         omega arith
 
     row_now : (o : ObjNo) (row : ServerRow) → server_at gone.serving.servers o ≡ Some row → IsServed now_told gone o row
@@ -112,51 +105,13 @@ module _ (script : Script) (r : Reading) (S : State) (t : ObjNo) (done : Step) (
         some_now o b true false n so one two is = let at = if_is (v.0 == o.0) 1 (eq-eqb v.0 o.0 (two refl refl)) in omega arith
         some_now o b false d n so one two is = absurd (one so refl)
 
-    told_first : (s o : ObjNo) → server_told (r.effects ++ fs) s ≡ Some o → server_told r.effects s ≡ Some o
-    told_first s o is = sym (server_told-append r.effects fs s ∙ ap (λ (x : Option ObjNo). or_before x (server_told r.effects s)) (k.unlinked s)) ∙ is
-
     pub served-closing : Served script now_told gone
-    served-closing = record {
-      rows = row_now;
-      links =
-          λ s o is. server_told-append r.effects fs s
-          ∙ (ap (λ (x : Option ObjNo). or_before x (server_told r.effects s)) (k.unlinked s)
-          ∙ h.links s o (k.links s o is));
-      same =
-          λ s o is. remade-on r done fs (steps_of t (Lose holder v ∷ [])) s o (unmade_now o) (joined-none done fs s (k.unlinked s))
-          ∙ h.same s o (k.links s o is);
-      ended = λ o row is some.
-          let one = k.servers o row is in
-          let was = closing-was v S.serving.servers o one.old one.was in
-          let a = same_ends o in one.still (was.3 (h.ended o was.0 was.1 (omega arith)));
-      over =
-          λ u o some. ap (λ (l : List (List ObjNo)). times_owned l u o) k.owned
-          ∙ h.over u o (let a = same_ends o in omega arith);
-      made = λ u o is. elim (h.made u o (sym (owner_same o) ∙ is)) as (λ _. (0 < times_owned gone.serving.owned u o) ⊎ (0 < ends_by now_told o)) [
-        | inl owned ↦ inl (subst (λ (l : List (List ObjNo)). 0 < times_owned l u o) (sym k.owned) owned)
-        | inr over ↦ inr (let a = same_ends o in omega arith)
-      ];
-      places = λ n row is.
-          let w = k.threads n row is in
-          let old = h.places n w.old w.was in
-          record { first = old.first; is = old.is; role = old.role ∙ w.role; place = let a = w.place in let b = old.place in omega arith };
-      told_linked = λ s o row is there alive.
-          let was = told_first s o is in
-          let old = k.slots s row there in
-          elim (h.told_linked s o old.old was old.was (k.alive s row there alive)) as
-          (λ _. (server_of gone.serving.servers s ≡ Some o) ⊎ (is_over_by now_told s o ≡ true)) [
-            | inr over ↦ inr (over-on r done fs (steps_of t (Lose holder v ∷ [])) s o (unmade_now o) (k.unlinked s) over)
-            | inl linked ↦
-                elim (k.linked s o row there linked) as
-                (λ _. (server_of gone.serving.servers s ≡ Some o) ⊎ (is_over_by now_told s o ≡ true)) [
-                  | inl still ↦ inl still
-                  | inr other ↦ elim other as (λ _. (server_of gone.serving.servers s ≡ Some o) ⊎ (is_over_by now_told s o ≡ true)) [
-                    | inl dead ↦ absurd (dead alive)
-                    | inr detached ↦ let none = undetached holder v o handle in absurd (omega arith)
-                  ]
-                ]
-          ];
-    }
+    served-closing =
+        served-beside script r S (begun v) gone t (Lose holder v ∷ []) done fs h
+        (record { linked = λ s. refl; sessions = λ s. refl; owned = refl; threads = refl; objects = λ s. refl }) k unmade_now
+        (λ s o some. let none = undetached holder v o handle in absurd (omega arith)) row_now (λ o row is some.
+        let one = k.servers o row is in
+        let was = closing-was v S.serving.servers o one.old one.was in one.still (was.3 (h.ended o was.0 was.1 some)))
 
   -- a server stops
   module _ (v : ObjNo) (makes : makes_server done ≡ false) (may : MayEnd S v) (inside : t.0 < length S.serving.owned)
@@ -187,7 +142,7 @@ module _ (script : Script) (r : Reading) (S : State) (t : ObjNo) (done : Step) (
     closings_kept o w =
         let a = closings-on r done told_then (λ k. 0) o w (unmade_then o) in
         let b = close-lost last (Own t) v o refl in
-        let c = closed-dooms last (Own t) v w in
+        let c = unfated-close last (Own t) v w in
         omega arith
 
     fewer : (u o : ObjNo) → times_owned stopped.serving.owned u o + (if t.0 == u.0 then same v o else 0) ≡ times_owned S.serving.owned u o

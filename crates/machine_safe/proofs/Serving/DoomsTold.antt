@@ -34,37 +34,29 @@ use Rattle.sym_base.specs.declared.number.ObjNo.{ObjNo}
 -- each doom that moves tell of is one of them
 unfated-nano : (m : NanoMove) (v : ObjNo) → dooms (nano_told m) v ≡ 0
 unfated-nano (nano.Take t f) v = refl
-unfated-nano (nano.Give t f) v = refl
 unfated-nano _ v = refl
 
 unfated-request : (m : RequestMove) (v : ObjNo) → dooms (request_told m) v ≡ 0
 unfated-request (request.Complete d t s code) v = refl
-unfated-request (request.Signal t s code) v = refl
-unfated-request (request.Reply t code) v = refl
 unfated-request _ v = refl
 
 unfated-lock : (m : LockMove) (v : ObjNo) → dooms (lock_told m) v ≡ 0
 unfated-lock (Lock o t Taken) v = refl
 unfated-lock (Unlock o t Freed) v = refl
-unfated-lock (Unlock o t (Passed w)) v = refl
 unfated-lock (Free o t None) v = refl
-unfated-lock (Free o t (Some w)) v = refl
 unfated-lock _ v = refl
 
 unfated-server : (m : ServerMove) (v : ObjNo) → dooms (server_told m) v ≡ 0
 unfated-server (Join s o slots u) v = refl
-unfated-server (End o) v = refl
 unfated-server _ v = refl
 
-unfated-close : (last : Bool) (h : Holder) (o v : ObjNo) → dooms (closed_effects last h o) v ≡ 0
+pub unfated-close : (last : Bool) (h : Holder) (o v : ObjNo) → dooms (closed_effects last h o) v ≡ 0
 unfated-close true h o v = refl
 unfated-close false h o v = refl
 
 fated-death : (m : DeathMove) (v : ObjNo) → dooms (death_told m) v ≤ doomed_bit v (Death m)
 fated-death (Note u exit) v = omega arith
-fated-death (Doom u exit) v = omega arith
-fated-death (Clean u) v = omega arith
-fated-death (Bury u) v = omega arith
+fated-death _ v = omega arith
 
 fated-move : (m : Move) (S : State) (v : ObjNo) → dooms (told m S) v ≤ doomed_bit v m
 fated-move (Lose h o) S v = let a = unfated-close (dies S o) h o v in omega arith
@@ -74,10 +66,7 @@ fated-move (Locks m) S v = let a = unfated-lock m v in omega arith
 fated-move (Death m) S v = fated-death m v
 fated-move (Servers m) S v = let a = unfated-server m v in omega arith
 fated-move (Messages (Accept slots row)) S v = omega arith
-fated-move (Messages (Take o)) S v = omega arith
-fated-move (Messages (Finish m code)) S v = omega arith
 fated-move (Pay (Close h o)) S v = let a = unfated-close (dies S o) h o v in omega arith
-fated-move (Pay (Sweep o)) S v = omega arith
 fated-move m S v = omega arith
 
 pub doom-among : (t : ObjNo) (ms : List Move) (S : State) (v : ObjNo) → dooms (tell t ms S) v ≤ total (doomed_bit v) ms

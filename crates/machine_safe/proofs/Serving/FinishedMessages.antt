@@ -23,7 +23,7 @@ use Rattle.machine_safe.proofs.Deaths.Rows.{row_bit, stage_live}
 use Rattle.machine_safe.proofs.Serving.ServerActions.{IsFinishing, status_of_way, behind}
 use Rattle.machine_safe.proofs.Serving.ActionMoves.{Doing, IsGoing, going, keeps-doing}
 use Rattle.machine_safe.proofs.Serving.KeptServers.{Keeps, changing-none, changing_bit, message-none, detach-none, detach_bit, lost_bit, lost-none}
-use Rattle.machine_safe.proofs.Serving.OutstandingMessages.{Known, letters-less, same_number}
+use Rattle.machine_safe.proofs.Serving.OutstandingMessages.{Known, letters-less}
 use Rattle.machine_safe.proofs.Serving.KeptMessages.{IsQuiet, Post, post_of, posts, quiet-each}
 use Rattle.machine_safe.proofs.Serving.ServerReading.{reading}
 use Rattle.machine_safe.proofs.Serving.SendingSteps.{behind-quiet}
@@ -34,7 +34,7 @@ use Rattle.machine_safe.specs.SafeDeaths.{dooms}
 use Rattle.machine_safe.specs.SafeMessages.{IsFinish, code_by, notice}
 use Rattle.machine_safe.specs.Sent.{accepts, finishes, instruction_in, status_by}
 use Rattle.machine_safe.specs.Served.{owner_in}
-use Rattle.move_laws.proofs.Lists.Contents.{contains_behind, contains_cases, contains_first, found_there, none_contained}
+use Rattle.move_laws.proofs.Lists.Contents.{contains_behind, contains_cases, contains_first, found_there, none_contained, map_contains}
 use Rattle.move_laws.proofs.Lists.Totals.{total-append}
 use Rattle.move_laws.proofs.MoveLaws.RowMoves.{silent}
 use Rattle.script_types.specs.declared.script.Script.{Script}
@@ -57,6 +57,7 @@ use Rattle.machine_laws.proofs.Fitting.Regular.{IsRegular, Kinds, plain}
 use Rattle.machine_laws.proofs.Fitting.Finishing.{tame-refused, tame-reply_to}
 use Rattle.machine_safe.proofs.Runs.{effects-append}
 use Rattle.machine_safe.proofs.Deaths.EffectSums.{dooms-append}
+use Rattle.machine_safe.proofs.Held.{same_message}
 
 -- a message's number tells it among posts
 fewer-posts : (m : MsgNo) (xs : List Message) (x : Post)
@@ -93,13 +94,6 @@ other-posts m (y ∷ ys) x there apart = by (has_number m y) refl (λ z. other-p
         (λ other. contains_first (map post_of (filter (λ w. not (has_number m w)) ys)) (post_of y))
         (λ z behind other. contains_behind (post_of y) (map post_of (filter (λ w. not (has_number m w)) ys)) z
         (rest z behind other)) apart
-
--- what stands in a list stands in one that is mapped
-map_there : {A B : Type 0} (g : A → B) (xs : List A) (x : A) → Contains xs x → Contains (map g xs) (g x)
-map_there g [] x there = absurd (none_contained x there)
-map_there {A} g (y ∷ ys) x there =
-    contains_cases (λ z. Contains (map g (y ∷ ys)) (g z)) y ys x there (contains_first (map g ys) (g y))
-    (λ z behind. contains_behind (g y) (map g ys) (g z) (map_there g ys z behind))
 
 -- what a client is told, in whichever state
 behind-silent : (answers : Bool) (t : ObjNo) (X : State) → tell t (behind answers t) X ≡ []
@@ -178,10 +172,8 @@ finish-tells S t message code answers row n is fate =
 notice-silent : (status : Option StatusNo) (doomed : Bool) (client : ObjNo) (code : ℤ)
     → (accepts (notice status doomed client code) ≡ 0)
     × ((m : MsgNo) → finishes (notice status doomed client code) m ≡ 0)
-notice-silent None false client code = (refl, λ m. refl)
-notice-silent None true client code = (refl, λ m. refl)
 notice-silent (Some s) false client code = (refl, λ m. refl)
-notice-silent (Some s) true client code = (refl, λ m. refl)
+notice-silent _ _ client code = (refl, λ m. refl)
 
 abbrev posts_of : State → List Post
 posts_of X = posts X
@@ -255,7 +247,7 @@ module _ (script : Script) (before : List Entry) (S : State) (place : ℕ) (t : 
       found = (found_there (has_number is.message.number) S.serving.messages.outstanding is.message is.there).0
 
       among : Contains (posts S) (post_of is.message)
-      among = map_there post_of S.serving.messages.outstanding is.message found
+      among = map_contains post_of S.serving.messages.outstanding is.message found
 
       known : Known script before (post_of is.message)
       known = book.letters.known (post_of is.message) among
@@ -335,7 +327,7 @@ module _ (script : Script) (before : List Entry) (S : State) (place : ℕ) (t : 
       number_is n some = by (is.message.number.0 == n.0) refl some
         where
           by : (b : Bool) → (is.message.number.0 == n.0) ≡ b → 0 < (if b then 1 else 0) → is.message.number ≡ n
-          by true at some = same_number is.message.number n (eqb-true is.message.number.0 n.0 at)
+          by true at some = same_message is.message.number n (eqb-true is.message.number.0 n.0 at)
           by false at some = absurd (omega arith)
 
       server : (row : ServerRow) × (server_at S.serving.servers is.message.row.server ≡ Some row) × (row.owner ≡ t)

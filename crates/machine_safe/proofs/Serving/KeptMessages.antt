@@ -17,7 +17,7 @@ use Rattle.machine.specs.Kept.{dies}
 use Rattle.machine.specs.Rows.{owed_of}
 use Rattle.machine.specs.ServerMoves.{server_told}
 use Rattle.machine.specs.WellFormed.{AreRows, EachMayOwe, MayOwe}
-use Rattle.machine.specs.declared.message_move.MessageMove.TheVariants.{Accept, Finish, Take}
+use Rattle.machine.specs.declared.message_move.MessageMove.TheVariants.{Finish, Take}
 use Rattle.machine.specs.declared.moves.Move.{Move}
 use Rattle.machine.specs.declared.moves.Move.TheVariants.{Copies, Lose, Messages, Pay, Servers}
 use Rattle.machine.specs.declared.server_move.ServerMove.{ServerMove}
@@ -198,13 +198,11 @@ lost-close false h o v = omega arith
 
 pub lost-move : (script : Script) (S : State) (t : ObjNo) (m : Move) (v : ObjNo) → FitsMove script t m S → handles_lost (told m S) v ≤ lost_bit v m
 lost-move script S t (Lose h o) v fits = lost-close (dies S o) h o v
-lost-move script S t (Servers (Join s o slots u)) v fits = omega arith
 lost-move script S t (Servers (End o)) v fits = omega arith
-lost-move script S t (Servers m) v fits = omega arith
-lost-move script S t (Messages (Accept slots row)) v fits = omega arith
-lost-move script S t (Messages (Finish n code)) v fits = omega arith
-lost-move script S t (Messages m) v fits = omega arith
+lost-move script S t (Servers _) v fits = omega arith
 lost-move script S t (Pay what) v fits = absurd fits
+lost-move script S t (Messages (Finish n code)) v fits = omega arith
+lost-move script S t (Messages _) v fits = omega arith
 lost-move script S t m v fits = let none = (unserved-move script S t m fits refl).lost v in omega arith
 
 pub lost-each : (script : Script) (S : State) (t : ObjNo) (ms : List Move) (v : ObjNo) → EachFits script t ms S

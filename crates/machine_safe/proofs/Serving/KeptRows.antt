@@ -12,7 +12,7 @@ use Rattle.machine.specs.Rows.{object_of, with_row}
 use Rattle.machine.specs.ServerMoves.{all_closing, owned_by, servers_closed, servers_lose}
 use Rattle.machine.specs.WellFormed.{AreRows}
 use Rattle.machine.specs.declared.death_move.DeathMove.{DeathMove}
-use Rattle.machine.specs.declared.death_move.DeathMove.TheVariants.{Bury, Clean, Doom, Note}
+use Rattle.machine.specs.declared.death_move.DeathMove.TheVariants.{Note}
 use Rattle.machine.specs.declared.moves.Move.{Move}
 use Rattle.machine.specs.declared.moves.Move.TheVariants.{Advance, Death, Find, Open, Miss, Gain, GoOn, Keep, Lose, Make, Pay, PutDown, Servers, SetPriority, Wait, Wake, Write, WriteMessage}
 use Rattle.machine.specs.declared.server_move.ServerMove.TheVariants.{CloseAll, SetOpen}
@@ -39,6 +39,7 @@ use Rattle.sym_base.specs.declared.number.ObjNo.{ObjNo}
 use Rattle.state_rows.specs.declared.duty.Owed.{Owed}
 use Rattle.state_rows.specs.declared.duty.Owed.TheVariants.{Close, Sweep}
 use Rattle.state_rows.proofs.SoundChanges.{set_item}
+use Rattle.machine_safe.proofs.Serving.KeptUses.{closing-sessions}
 
 -- rows of servers that are the same
 pub server-same : (r : ServerRows) (ms : List Move) (o : ObjNo) (row : ServerRow) → server_at r o ≡ Some row → WasServer r ms o row
@@ -135,16 +136,12 @@ link-lost : (h : Holder) (r : ServerRows) (s o : ObjNo) → server_of (servers_l
 link-lost (Link x) r s o is = link-mapped detached r.sessions x.0 s o (λ row e. absurd (cc)) is
 link-lost _ r s o is = is
 
-all-links : (os : List ObjNo) (r : ServerRows) → (all_closing os r).sessions ≡ r.sessions
-all-links [] r = refl
-all-links (x ∷ xs) r = all-links xs (after_closing r x)
-
 pub link-move : (script : Script) (S : State) (t : ObjNo) (m : Move) → FitsMove script t m S → changing_bit m ≡ 0
     → (s o : ObjNo) → server_of (moved t m S).serving.servers s ≡ Some o → server_of S.serving.servers s ≡ Some o
 link-move script S t (Lose h x) fits none s o is = link-lost h S.serving.servers s o (link-closed (dies S x) x (servers_lose h S.serving.servers) s o is)
 link-move script S t (Servers (CloseAll u)) fits none s o is =
     ap (λ (l : List (Option SessionRow)). link_of (get_or l s.0 None))
-    (sym (all-links (owned_by S.serving.owned u) S.serving.servers))
+    (sym (closing-sessions (owned_by S.serving.owned u) S.serving.servers))
     ∙ is
 link-move script S t (Servers (SetOpen x to)) fits none s o is = link-mapped (opened to) S.serving.servers.sessions x.0 s o (λ row e. e) is
 link-move script S t (Servers m) fits none s o is = absurd (omega arith)
@@ -228,9 +225,7 @@ at-closed false o threads k row is = at-same threads k row is
 at-dies : (threads : List (Option ThreadRow)) (m : DeathMove) (k : ℕ) (row : ThreadRow)
     → get_or (with_row threads (death_thread m) (death_row m)) k None ≡ Some row → WasAt threads k 0 row
 at-dies threads (Note u exit) k row is = at-with threads u _ (λ r. refl) (λ r. refl) k row is
-at-dies threads (Doom u exit) k row is = at-with threads u _ (λ r. refl) (λ r. refl) k row is
-at-dies threads (Clean u) k row is = at-with threads u _ (λ r. refl) (λ r. refl) k row is
-at-dies threads (Bury u) k row is = at-with threads u _ (λ r. refl) (λ r. refl) k row is
+at-dies threads m k row is = at-with threads (death_thread m) (death_row m) (λ r. refl) (λ r. refl) k row is
 
 -- one that goes on by no instruction
 pub at-steps : (threads : List (Option ThreadRow)) (t : ObjNo) (ms : List Move) (k : ℕ) (row : ThreadRow)

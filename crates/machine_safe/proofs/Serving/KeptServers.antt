@@ -54,13 +54,10 @@ detach_bit v _ = 0
 changing-serves : (m : Move) → changing_bit m ≤ serving_bit m
 changing-serves (Lose (Own t) o) = omega arith
 changing-serves (Servers (CloseAll u)) = omega arith
-changing-serves (Servers (SetOpen s to)) = omega arith
-changing-serves (Servers m) = omega arith
 changing-serves _ = omega arith
 
 message-serves : (m : Move) → message_bit m ≤ serving_bit m
 message-serves (Messages (Take o)) = omega arith
-message-serves (Messages m) = omega arith
 message-serves _ = omega arith
 
 lost-serves : (v : ObjNo) (m : Move) → serving_bit m ≡ 0 → lost_bit v m ≡ 0
@@ -168,7 +165,7 @@ keeps-none S t = record {
   unowned = λ none v. refl;
 }
 
-nothing-told : (a b : Option ObjNo) → a ≡ None → b ≡ None → or_before a b ≡ None
+pub nothing-told : (a b : Option ObjNo) → a ≡ None → b ≡ None → or_before a b ≡ None
 nothing-told a b one two = ap (λ (x : Option ObjNo). or_before x b) one ∙ two
 
 -- a server that is closing stays so

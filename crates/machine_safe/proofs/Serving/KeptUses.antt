@@ -123,35 +123,26 @@ using-dies : (m : DeathMove) (threads : List (Option ThreadRow)) (u o : ObjNo) (
     → get_or (with_row threads (death_thread m) (death_row m)) u.0 None ≡ Some row → row.uses ≡ Some o
     → WasUsing threads u o
 using-dies (death.Note v exit) threads u o row is uses = using-with threads v _ u o row (λ r. refl) is uses
-using-dies (death.Doom v exit) threads u o row is uses = using-with threads v _ u o row (λ r. refl) is uses
-using-dies (death.Clean v) threads u o row is uses = using-with threads v _ u o row (λ r. refl) is uses
-using-dies (death.Bury v) threads u o row is uses = using-with threads v _ u o row (λ r. refl) is uses
+using-dies m threads u o row is uses = using-with threads (death_thread m) (death_row m) u o row (λ r. refl) is uses
 
 -- what tells of no use
 unused-nano : (m : NanoMove) (u : ObjNo) → used_told (nano_told m) u ≡ None
 unused-nano (nano.Take t f) u = refl
-unused-nano (nano.Give t f) u = refl
 unused-nano _ u = refl
 
 unused-request : (m : RequestMove) (u : ObjNo) → used_told (request_told m) u ≡ None
 unused-request (request.Complete d t s code) u = refl
-unused-request (request.Signal t s code) u = refl
-unused-request (request.Reply t code) u = refl
 unused-request _ u = refl
 
 unused-lock : (m : LockMove) (u : ObjNo) → used_told (lock_told m) u ≡ None
 unused-lock (Lock o t Taken) u = refl
 unused-lock (Unlock o t Freed) u = refl
-unused-lock (Unlock o t (Passed w)) u = refl
 unused-lock (Free o t None) u = refl
-unused-lock (Free o t (Some w)) u = refl
 unused-lock _ u = refl
 
 unused-death : (m : DeathMove) (u : ObjNo) → used_told (death_told m) u ≡ None
 unused-death (death.Note t exit) u = refl
-unused-death (death.Doom t exit) u = refl
-unused-death (death.Clean t) u = refl
-unused-death (death.Bury t) u = refl
+unused-death _ u = refl
 
 pub unused-close : (last : Bool) (h : Holder) (o u : ObjNo) → used_told (closed_effects last h o) u ≡ None
 unused-close true h o u = refl
@@ -159,12 +150,10 @@ unused-close false h o u = refl
 
 unused-server : (m : ServerMove) (u : ObjNo) → used_told (server_told m) u ≡ None
 unused-server (Join s o slots t) u = refl
-unused-server (End o) u = refl
 unused-server _ u = refl
 
 unused-message : (m : MessageMove) (r : MessageRows) (u : ObjNo) → used_told (message_told m r) u ≡ None
 unused-message (Accept slots row) r u = refl
-unused-message (Finish m code) r u = refl
 unused-message _ r u = refl
 
 pub uses-move : (script : Script) (S : State) (t : ObjNo) (m : Move) → FitsMove script t m S

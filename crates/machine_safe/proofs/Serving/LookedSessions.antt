@@ -50,7 +50,7 @@ use Rattle.machine_laws.proofs.Fitting.Interrupts.{light-immediate, light-interr
 use Rattle.machine_laws.proofs.Fitting.Regular.{Kinds, advance_bit, answer_bit, kind_given, kind_of, looking, use_bit}
 use Rattle.machine_safe.proofs.Serving.ServerActions.{Looked, at_send}
 use Rattle.machine_safe.proofs.Serving.EffectSums.{or-none, or-three, used_told-append}
-use Rattle.machine_safe.proofs.Serving.KeptServers.{steps_of}
+use Rattle.machine_safe.proofs.Serving.KeptServers.{steps_of, nothing-told}
 use Rattle.machine_safe.proofs.Serving.KeptRows.{at-move, at-pay}
 use Rattle.machine_safe.proofs.Serving.KeptUses.{unused-move, unused-pay, uses-move, using-pay}
 use Rattle.machine_safe.proofs.Serving.ActionsTold.{entry_for}
@@ -77,15 +77,12 @@ looked-same before e u none =
     by false = refl
 
 -- moves by which a thread comes to use nothing tell of no use
-none-both : (a b : Option ObjNo) → a ≡ None → b ≡ None → or_before a b ≡ None
-none-both a b p q = ap (λ (o : Option ObjNo). or_before o b) p ∙ q
-
 unused-each : (script : Script) (S : State) (t : ObjNo) (ms : List Move) (u : ObjNo) → EachFits script t ms S
     → total (use_bit u) ms ≡ 0 → used_told (tell t ms S) u ≡ None
 unused-each script S t [] u fits none = refl
 unused-each script S t (m ∷ ms) u fits none =
     used_told-append (told m S) (tell t ms (moved t m S)) u
-    ∙ none-both (used_told (tell t ms (moved t m S)) u) (used_told (told m S) u)
+    ∙ nothing-told (used_told (tell t ms (moved t m S)) u) (used_told (told m S) u)
     (unused-each script (moved t m S) t ms u fits.1 (omega arith)) (unused-move script S t m fits.0 u (omega arith))
 
 -- whoever uses something then used it before, at the same instruction
@@ -158,8 +155,6 @@ looked-from script before S t ms e tells looked fits u o row none is sends uses 
 
 given-unused : (what : Holding) → (kind_given what).uses ≡ false
 given-unused (holding.Mutex o) = refl
-given-unused (holding.Use o) = refl
-given-unused (holding.Logon u s) = refl
 given-unused _ = refl
 
 module _ (script : Script) (before : List Entry) (S : State) (place : ℕ) (t : ObjNo) (looked : Looked script before S) where

@@ -1,5 +1,5 @@
 -- What each move tells of servers and messages.
-use Rattle.std.proofs.Common.{◌≡◌, List, arith, refl, None, Bool, true, false, Some, ap, ◌+◌}
+use Rattle.std.proofs.Common.{◌≡◌, ℕ, Option, List, arith, refl, None, Bool, true, false, Some, ap, ◌+◌}
 use Rattle.sym_base.specs.declared.number.MsgNo.{MsgNo}
 use Rattle.sym_base.specs.declared.number.ObjNo.{ObjNo}
 use Rattle.script_types.specs.declared.script.Script.{Script}
@@ -14,7 +14,7 @@ use Rattle.machine.specs.declared.death_move.DeathMove.{DeathMove}
 use Rattle.machine.specs.declared.death_move.DeathMove.TheVariants as death
 use Rattle.machine.specs.declared.lock_move.LockMove.{LockMove}
 use Rattle.machine.specs.declared.lock_move.LockMove.TheVariants.{Lock, Unlock, Free}
-use Rattle.machine.specs.declared.message_move.MessageMove.TheVariants.{Accept, Take, Finish}
+use Rattle.machine.specs.declared.message_move.MessageMove.TheVariants.{Accept, Take}
 use Rattle.machine.specs.declared.moves.Move.{Move}
 use Rattle.machine.specs.declared.moves.Move.TheVariants.{Make, Gain, Lose, Nano, Requests, Locks, Death, Servers, Messages, Pay}
 use Rattle.machine.specs.declared.nano_move.NanoMove.{NanoMove}
@@ -52,75 +52,39 @@ pub record IsUnserved (effects : List Effect) : Type 0 where
   pub finishes : (m : MsgNo) → finishes effects m ≡ 0
   pub lost : (v : ObjNo) → handles_lost effects v ≡ 0
 
+pub unlinking_of : {effects : List Effect} → ((o : ObjNo) → ◌≡◌ {A = Option ObjNo × ℕ} (server_told effects o, ends effects o) (None, 0)) → IsUnlinking effects
+unlinking_of none = record {
+  unlinked = λ s. ap (λ (n : Option ObjNo × ℕ). n.0) (none s);
+  unended = λ v. ap (λ (n : Option ObjNo × ℕ). n.1) (none v);
+}
+
+unserved_of : {effects : List Effect} → accepts effects ≡ 0 → ((m : MsgNo) → finishes effects m ≡ 0)
+    → ((o : ObjNo) → ◌≡◌ {A = Option ObjNo × ℕ} (server_told effects o, ends effects o) (None, 0)) → ((o : ObjNo) → handles_lost effects o ≡ 0)
+    → IsUnserved effects
+unserved_of none unfinished links kept = record { links = unlinking_of links; accepts = none; finishes = unfinished; lost = kept }
+
 unserved-nano : (m : NanoMove) → IsUnserved (nano_told m)
-unserved-nano (nano.Take t f) = record { links = record { unlinked = λ s. refl; unended = λ v. refl }; accepts = refl; finishes = λ m. refl; lost = λ v. refl }
-unserved-nano (nano.Give t f) = record { links = record { unlinked = λ s. refl; unended = λ v. refl }; accepts = refl; finishes = λ m. refl; lost = λ v. refl }
-unserved-nano _ = record { links = record { unlinked = λ s. refl; unended = λ v. refl }; accepts = refl; finishes = λ m. refl; lost = λ v. refl }
+unserved-nano (nano.Take t f) = unserved_of refl (λ m. refl) (λ o. refl) (λ o. refl)
+unserved-nano _ = unserved_of refl (λ m. refl) (λ o. refl) (λ o. refl)
 
 unserved-request : (m : RequestMove) → IsUnserved (request_told m)
-unserved-request (request.Complete d t s code) = record {
-  links = record { unlinked = λ s. refl; unended = λ v. refl };
-  accepts = refl;
-  finishes = λ m. refl;
-  lost = λ v. refl;
-}
-unserved-request (request.Signal t s code) = record {
-  links = record { unlinked = λ s. refl; unended = λ v. refl };
-  accepts = refl;
-  finishes = λ m. refl;
-  lost = λ v. refl;
-}
-unserved-request (request.Reply t code) = record {
-  links = record { unlinked = λ s. refl; unended = λ v. refl };
-  accepts = refl;
-  finishes = λ m. refl;
-  lost = λ v. refl;
-}
-unserved-request _ = record { links = record { unlinked = λ s. refl; unended = λ v. refl }; accepts = refl; finishes = λ m. refl; lost = λ v. refl }
+unserved-request (request.Complete d t s code) = unserved_of refl (λ m. refl) (λ o. refl) (λ o. refl)
+unserved-request _ = unserved_of refl (λ m. refl) (λ o. refl) (λ o. refl)
 
 unserved-death : (m : DeathMove) → IsUnserved (death_told m)
-unserved-death (death.Note t exit) = record {
-  links = record { unlinked = λ s. refl; unended = λ v. refl };
-  accepts = refl;
-  finishes = λ m. refl;
-  lost = λ v. refl;
-}
-unserved-death (death.Doom t exit) = record {
-  links = record { unlinked = λ s. refl; unended = λ v. refl };
-  accepts = refl;
-  finishes = λ m. refl;
-  lost = λ v. refl;
-}
-unserved-death (death.Clean t) = record { links = record { unlinked = λ s. refl; unended = λ v. refl }; accepts = refl; finishes = λ m. refl; lost = λ v. refl }
-unserved-death (death.Bury t) = record { links = record { unlinked = λ s. refl; unended = λ v. refl }; accepts = refl; finishes = λ m. refl; lost = λ v. refl }
+unserved-death (death.Note t exit) = unserved_of refl (λ m. refl) (λ o. refl) (λ o. refl)
+unserved-death _ = unserved_of refl (λ m. refl) (λ o. refl) (λ o. refl)
 
 unserved-lock : (m : LockMove) → IsUnserved (lock_told m)
-unserved-lock (Lock o t Taken) = record { links = record { unlinked = λ s. refl; unended = λ v. refl }; accepts = refl; finishes = λ m. refl; lost = λ v. refl }
-unserved-lock (Unlock o t Freed) = record {
-  links = record { unlinked = λ s. refl; unended = λ v. refl };
-  accepts = refl;
-  finishes = λ m. refl;
-  lost = λ v. refl;
-}
-unserved-lock (Unlock o t (Passed w)) = record {
-  links = record { unlinked = λ s. refl; unended = λ v. refl };
-  accepts = refl;
-  finishes = λ m. refl;
-  lost = λ v. refl;
-}
-unserved-lock (Free o t None) = record { links = record { unlinked = λ s. refl; unended = λ v. refl }; accepts = refl; finishes = λ m. refl; lost = λ v. refl }
-unserved-lock (Free o t (Some w)) = record {
-  links = record { unlinked = λ s. refl; unended = λ v. refl };
-  accepts = refl;
-  finishes = λ m. refl;
-  lost = λ v. refl;
-}
-unserved-lock _ = record { links = record { unlinked = λ s. refl; unended = λ v. refl }; accepts = refl; finishes = λ m. refl; lost = λ v. refl }
+unserved-lock (Lock o t Taken) = unserved_of refl (λ m. refl) (λ o. refl) (λ o. refl)
+unserved-lock (Unlock o t Freed) = unserved_of refl (λ m. refl) (λ o. refl) (λ o. refl)
+unserved-lock (Free o t None) = unserved_of refl (λ m. refl) (λ o. refl) (λ o. refl)
+unserved-lock _ = unserved_of refl (λ m. refl) (λ o. refl) (λ o. refl)
 
 -- a close tells of no link and no message
 pub unlinking-close : (last : Bool) (h : Holder) (o : ObjNo) → IsUnlinking (closed_effects last h o)
-unlinking-close true h o = record { unlinked = λ s. refl; unended = λ v. refl }
-unlinking-close false h o = record { unlinked = λ s. refl; unended = λ v. refl }
+unlinking-close true h o = unlinking_of (λ o. refl)
+unlinking-close false h o = unlinking_of (λ o. refl)
 
 pub close-accepts : (last : Bool) (h : Holder) (o : ObjNo) → accepts (closed_effects last h o) ≡ 0
 close-accepts true h o = refl
@@ -145,81 +109,45 @@ unserved-close last h o not = record {
 -- a move that serves nobody
 pub unserved-move : (script : Script) (S : State) (t : ObjNo) (m : Move) → FitsMove script t m S → serving_bit m ≡ 0 → IsUnserved (told m S)
 unserved-move script S t (Make kind name (Link s)) fits none = absurd fits.1
-unserved-move script S t (Make kind name h) fits none = record {
-  links = record { unlinked = λ s. refl; unended = λ v. refl };
-  accepts = refl;
-  finishes = λ m. refl;
-  lost = λ v. refl;
-}
+unserved-move script S t (Make kind name h) fits none = unserved_of refl (λ m. refl) (λ o. refl) (λ o. refl)
 unserved-move script S t (Gain (Link s) o) fits none = absurd fits.0
-unserved-move script S t (Gain h o) fits none = record {
-  links = record { unlinked = λ s. refl; unended = λ v. refl };
-  accepts = refl;
-  finishes = λ m. refl;
-  lost = λ v. refl;
-}
+unserved-move script S t (Gain h o) fits none = unserved_of refl (λ m. refl) (λ o. refl) (λ o. refl)
 unserved-move script S t (Lose (Temp u) o) fits none = unserved-close (dies S o) (Temp u) o refl
 unserved-move script S t (Lose h o) fits none = absurd (omega arith)
 unserved-move script S t (Nano m) fits none = unserved-nano m
 unserved-move script S t (Requests m) fits none = unserved-request m
 unserved-move script S t (Locks m) fits none = unserved-lock m
 unserved-move script S t (Death m) fits none = unserved-death m
-unserved-move script S t (Servers (CloseAll u)) fits none = record {
-  links = record { unlinked = λ s. refl; unended = λ v. refl };
-  accepts = refl;
-  finishes = λ m. refl;
-  lost = λ v. refl;
-}
-unserved-move script S t (Servers (SetOpen s to)) fits none = record {
-  links = record { unlinked = λ s. refl; unended = λ v. refl };
-  accepts = refl;
-  finishes = λ m. refl;
-  lost = λ v. refl;
-}
+unserved-move script S t (Servers (CloseAll u)) fits none = unserved_of refl (λ m. refl) (λ o. refl) (λ o. refl)
+unserved-move script S t (Servers (SetOpen s to)) fits none = unserved_of refl (λ m. refl) (λ o. refl) (λ o. refl)
 unserved-move script S t (Servers m) fits none = absurd (omega arith)
-unserved-move script S t (Messages (Take o)) fits none = record {
-  links = record { unlinked = λ s. refl; unended = λ v. refl };
-  accepts = refl;
-  finishes = λ m. refl;
-  lost = λ v. refl;
-}
+unserved-move script S t (Messages (Take o)) fits none = unserved_of refl (λ m. refl) (λ o. refl) (λ o. refl)
 unserved-move script S t (Messages m) fits none = absurd (omega arith)
 unserved-move script S t (Pay what) fits none = absurd fits
-unserved-move script S t m fits none = record {
-  links = record { unlinked = λ s. refl; unended = λ v. refl };
-  accepts = refl;
-  finishes = λ m. refl;
-  lost = λ v. refl;
-}
+unserved-move script S t m fits none = unserved_of refl (λ m. refl) (λ o. refl) (λ o. refl)
 
 -- one that makes and ends no server
 pub unlinking-move : (script : Script) (S : State) (t : ObjNo) (m : Move) → FitsMove script t m S → changing_bit m ≡ 0 → IsUnlinking (told m S)
 unlinking-move script S t (Lose h o) fits none = unlinking-close (dies S o) h o
-unlinking-move script S t (Messages (Accept slots row)) fits none = record { unlinked = λ s. refl; unended = λ v. refl }
-unlinking-move script S t (Messages (Take o)) fits none = record { unlinked = λ s. refl; unended = λ v. refl }
-unlinking-move script S t (Messages (Finish m code)) fits none = record { unlinked = λ s. refl; unended = λ v. refl }
-unlinking-move script S t (Servers (CloseAll u)) fits none = record { unlinked = λ s. refl; unended = λ v. refl }
-unlinking-move script S t (Servers (SetOpen s to)) fits none = record { unlinked = λ s. refl; unended = λ v. refl }
+unlinking-move script S t (Messages (Accept slots row)) fits none = unlinking_of (λ o. refl)
+unlinking-move script S t (Messages _) fits none = unlinking_of (λ o. refl)
+unlinking-move script S t (Servers (CloseAll u)) fits none = unlinking_of (λ o. refl)
+unlinking-move script S t (Servers (SetOpen s to)) fits none = unlinking_of (λ o. refl)
 unlinking-move script S t (Servers m) fits none = absurd (omega arith)
 unlinking-move script S t m fits none = (unserved-move script S t m fits refl).links
 
 -- one that changes no mutex tells of no ownership
 unowned-nano : (m : NanoMove) (v : ObjNo) → owner_told (nano_told m) v ≡ None
 unowned-nano (nano.Take t f) v = refl
-unowned-nano (nano.Give t f) v = refl
 unowned-nano _ v = refl
 
 unowned-request : (m : RequestMove) (v : ObjNo) → owner_told (request_told m) v ≡ None
 unowned-request (request.Complete d t s code) v = refl
-unowned-request (request.Signal t s code) v = refl
-unowned-request (request.Reply t code) v = refl
 unowned-request _ v = refl
 
 unowned-death : (m : DeathMove) (v : ObjNo) → owner_told (death_told m) v ≡ None
 unowned-death (death.Note t exit) v = refl
-unowned-death (death.Doom t exit) v = refl
-unowned-death (death.Clean t) v = refl
-unowned-death (death.Bury t) v = refl
+unowned-death _ v = refl
 
 unowned-lock : (m : LockMove) (v : ObjNo) → mutex_bit (Locks m) ≡ 0 → owner_told (lock_told m) v ≡ None
 unowned-lock (Lock o t locked) v none = absurd (omega arith)
@@ -247,7 +175,5 @@ unowned-move script S t (Servers (CloseAll u)) made fits none unlocked v = refl
 unowned-move script S t (Servers (SetOpen s to)) made fits none unlocked v = refl
 unowned-move script S t (Servers m) made fits none unlocked v = absurd (omega arith)
 unowned-move script S t (Messages (Accept slots row)) made fits none unlocked v = refl
-unowned-move script S t (Messages (Take o)) made fits none unlocked v = refl
-unowned-move script S t (Messages (Finish m code)) made fits none unlocked v = refl
 unowned-move script S t (Pay what) made fits none unlocked v = absurd fits
 unowned-move script S t m made fits none unlocked v = refl

@@ -1,6 +1,5 @@
 -- What is asked for the next action of each thread stands after each action: nothing is lacking.
 use Rattle.machine.specs.Boot.{born_process}
-use Rattle.machine_laws.proofs.AtBoot.Declared.{all-append, all_processes, all_threads}
 use Rattle.std.proofs.Common.{Bool, List, None, Option, Some, [], ap, false, get_or, length, refl, sym, true, zero, suc, ℕ, ◌+◌, ◌∙◌, ◌∷◌, ◌≡◌}
 use Rattle.std.specs.List.{AllByRecursion}
 use Rattle.std.specs.Prelude.{is_some, map}
@@ -8,8 +7,6 @@ use Rattle.sym_base.specs.declared.kind.Kind.TheVariants as kind
 use Rattle.sym_base.specs.declared.limits.TheConstants.Limits.{OBJECTS}
 use Rattle.sym_base.specs.declared.number.ObjNo.{ObjNo}
 use Rattle.script_types.specs.Shape.{IsShaped}
-use Rattle.script_types.specs.declared.declaration.QueueDecl.{QueueDecl}
-use Rattle.script_types.specs.declared.declaration.ThreadDecl.{ThreadDecl}
 use Rattle.script_types.specs.declared.script.Script.{Script}
 use Rattle.entry_log.specs.declared.entry.Actor.{Actor}
 use Rattle.state_rows.specs.declared.object.ObjectRow.{ObjectRow}
@@ -42,6 +39,10 @@ use Rattle.machine_safe.proofs.Serving.ProperActions.{are-properly}
 use Rattle.machine_safe.proofs.Serving.StepFacts.{Nowhere, straight-boot, straight-next, straight-of, straying}
 use Rattle.machine_safe.proofs.Serving.FoundUses.{UsesOne, used-boot, used-next}
 use Rattle.move_laws.proofs.Lists.Copies.{copy_at}
+use Rattle.machine_laws.proofs.AtBoot.Declared.{all_processes, all_threads}
+use Rattle.script_types.specs.declared.declaration.QueueDecl.{QueueDecl}
+use Rattle.script_types.specs.declared.declaration.ThreadDecl.{ThreadDecl}
+use Rattle.move_laws.proofs.Lists.Each.{all-both}
 
 pub record IsSteady (script : Script) (S : State) : Type 0 where
   pub straight : Facts script straying Nowhere S
@@ -140,11 +141,11 @@ plain_born script =
     let queues = born_queues 1 script.queues in
     let own = born_threads None 0 0 script.threads in
     let first = length (born_kernel script) in
-    all-append IsPlain (born_kernel script) (born_processes script.threads 0 first script.processes) (
+    all-both IsPlain (born_kernel script) (born_processes script.threads 0 first script.processes) (
       (refl, refl, λ e. absurd (cc)),
       (
         (refl, refl, λ e. refl),
-        all-append IsPlain queues own (plain_queues 1 script.queues)
+        all-both IsPlain queues own (plain_queues 1 script.queues)
             (all_threads IsPlain plain_thread None 0 0 script.threads),
       ),
     )

@@ -194,11 +194,9 @@ closed-none last x o objects none = none_of (get_or objects o.0 None) (sym (obje
 
 free-closed : (rows : List (Option ObjectRow)) (i : ℕ) → first_free (slice_set rows i (dead_row (get_or rows i None))) ≡ first_free rows
 free-closed [] zero = refl
-free-closed [] (suc i) = refl
 free-closed (None ∷ rest) zero = refl
-free-closed (None ∷ rest) (suc i) = refl
-free-closed (Some row ∷ rest) zero = refl
 free-closed (Some row ∷ rest) (suc i) = ap (λ (n : ℕ). 1 + n) (free-closed rest i)
+free-closed _ _ = refl
 
 closed-next : (reuse last : Bool) (x : ObjNo) (objects : List (Option ObjectRow))
     → next_number reuse (objects_closed last x objects) ≡ next_number reuse objects
@@ -224,7 +222,6 @@ next-server script by S k name h t ms fits made q = elim q.next as (λ _. has_se
 
 no-thread : (by : Going) (k : Kind) (h : Holder) → IsMadeBy by k h → is_kind kind.Thread k ≡ false
 no-thread by k (Own u) made = made.1
-no-thread by k (InProcess p i) made = made.1
 no-thread by k h made = made.1
 
 -- a session is made as the first object of its action

@@ -15,7 +15,7 @@ use Rattle.machine_safe.specs.Served.{ends, ends_in, or_before, owner_in, server
 use Rattle.move_laws.proofs.Lists.Contents.{contains_behind, contains_cases, contains_first, none_contained}
 use Rattle.move_laws.proofs.References.Same.{eqb_apart, if_is, if_not}
 use Rattle.script_types.specs.declared.script.Script.{Script}
-use Rattle.std.proofs.Common.{List, None, Option, Some, [], ap, append_assoc, arith, inl, inr, refl, subst, sym, ℕ, ◌++◌, ◌+◌, ◌<◌, ◌∙◌, ◌∷◌, ◌≡◌, ◌≢◌, ◌≤◌, ◌⊎◌, true}
+use Rattle.std.proofs.Common.{List, None, Option, Some, [], ap, append_assoc, arith, inl, inr, refl, subst, sym, ◌++◌, ◌+◌, ◌<◌, ◌∙◌, ◌∷◌, ◌≡◌, ◌≢◌, ◌≤◌, ◌⊎◌, true}
 use Rattle.std.proofs.lemmas.Bool.{cases_eq, eq-eqb}
 use Rattle.std.proofs.lemmas.List.Elements.{Contains-push_cases}
 use Rattle.std.specs.Prelude.{Contains, if◌then◌else◌, ◌==◌, filter, not, is_some}
@@ -26,6 +26,7 @@ use Rattle.machine_safe.specs.Slotted.{SentOver, outstanding_in, sent_told, slot
 use Rattle.std.proofs.lemmas.List.{append-nil}
 use Rattle.machine.specs.EntryWords.{is_send}
 use Rattle.machine_safe.specs.SafeDeaths.{dooms}
+use Rattle.machine_safe.proofs.Held.{same_message}
 
 -- what is known of an outstanding message
 pub record Known (script : Script) (before : List Entry) (p : Post) : Type 0 where
@@ -151,9 +152,6 @@ old-accepted before e m P none a old = elim (last-split before e a.before a.at a
   | inl end ↦ let some = accepts-told a.at m a.by in let same = ap (λ (x : Entry). accepts x.effects) end.same in absurd (omega arith)
   | inr behind ↦ old (record { before = a.before; at = a.at; later = behind.rest; stands = behind.within; by = a.by })
 ]
-
-pub same_number : (a b : MsgNo) → a.0 ≡ b.0 → a ≡ b
-same_number a b e = let made : ℕ → MsgNo = λ n. record { 0 = n } in ap made e
 
 -- two ways in which an entry accepts a message are one
 abbrev accepted_number : List Effect → MsgNo → MsgNo
@@ -325,7 +323,7 @@ module _ (script : Script) (before : List Entry) (S T : State) (e : Entry) (h : 
           | inl done ↦ inl (
               let b = finished-then m in
               let apart : p.number.0 ≡ m.0 → ⊥ = λ at. let unfinished = (h.known p there).unfinished in
-              let own = ap (finishes (effects_of before)) (same_number p.number m at) in
+              let own = ap (finishes (effects_of before)) (same_message p.number m at) in
               absurd (omega arith) in
               let c = goes m in
               let d = if_not (p.number.0 == m.0) 1 (eqb_apart p.number.0 m.0 apart) in omega arith)
@@ -337,7 +335,7 @@ module _ (script : Script) (before : List Entry) (S T : State) (e : Entry) (h : 
                     let c = goes m in
                     let d = if_is (p.number.0 == m.0) 1 (eq-eqb p.number.0 m.0 at) in
                     let unfinished = (h.known p there).unfinished in
-                    let own = ap (finishes (effects_of before)) (same_number p.number m at) in omega arith)
+                    let own = ap (finishes (effects_of before)) (same_message p.number m at) in omega arith)
                 | inr apart ↦
                     inr (record {
                       post = out.post;

@@ -55,6 +55,7 @@ use Rattle.state_rows.specs.declared.thread.Waiting.TheVariants as waiting
 use Rattle.std.proofs.Common.{Bool, None, Option, Some, ap, false, inl, inr, refl, sym, true, ℕ, ◌∙◌, ◌≡◌, ◌⊎◌, not}
 use Rattle.std.specs.Prelude.{is_none, is_some, nat_lt, slice_get, ◌&&◌, ◌||◌}
 use Rattle.sym_base.specs.declared.number.ObjNo.{ObjNo}
+use Rattle.std.proofs.lemmas.Bool.{and_parts}
 
 -- Nothing is lacking in a state: no step of a live thread that waits for nothing needs what isn't there; the calls that come next are declared, and a
 -- thread that comes back is at an instruction that finds.
@@ -67,12 +68,6 @@ pub record LacksNothing (script : Script) (S : State) : Type 0 where
       → next_call S.synchronization.deferred row.role ≡ Some dfc → nat_lt dfc 64 ≡ true
       → is_some (slice_get script.dfcs dfc) ≡ true
   pub items : (what : Item) → next_immediate S.synchronization.deferred ≡ Some what → IsDeclared script what
-
--- both parts of a test
-both-true : (a b : Bool) → (a && b) ≡ true → (a ≡ true) × (b ≡ true)
-both-true true true e = (refl, refl)
-both-true true false e = absurd (cc)
-both-true false b e = absurd (cc)
 
 -- a return is a step
 return-is-step : (told : Step) → is_return told ≡ true → acts told ≡ true
@@ -112,12 +107,12 @@ module _ (script : Script) (S : State) (shaped : IsShaped script) (rows : AreRow
       where
         by : (able : Bool) → is_able script S t ≡ able → ⊥
         by true e =
-            let able = both-true (is_ready script S t) (is_none (wanted_holder S.synchronization.nano t)) e in
-            let ready = both-true (not (is_waiting S t) && not (is_stopped S t)) (is_some (task_of script S t)) able.0 in
+            let able = and_parts (is_ready script S t) (is_none (wanted_holder S.synchronization.nano t)) e in
+            let ready = and_parts (not (is_waiting S t) && not (is_stopped S t)) (is_some (task_of script S t)) able.0 in
             let gone = ap is_some none in cc
         by false e =
             let out : is_out S t ≡ true = ap (λ (b : Bool). b || is_out S t) (sym e) ∙ may in
-            let back = both-true S.mode.shared (is_returning (part_of (thread_of S t))) out in cc
+            let back = and_parts S.mode.shared (is_returning (part_of (thread_of S t))) out in cc
 
     gives-acts : (row : ThreadRow) (what : Holding) → IsGiven S t what → acts (give_up S t row what).step ≡ true
     gives-acts row (holding.Message m) given = by (message_of S.serving.messages m) given.0

@@ -257,7 +257,6 @@ proper-behind script by m ms ns none is = is
 -- and behind others
 made-later : (on : Option ObjNo) (S : State) (last : Option Mark) (k : Kind) (h : Holder) → IsMadeBy (on, S, None) k h → IsMadeBy (on, S, last) k h
 made-later on S last k (Own t) is = is
-made-later on S last k (InProcess p i) is = is
 made-later on S last k h is = is
 
 later-one : (script : Script) (on : Option ObjNo) (S : State) (last : Option Mark) (m : Move) (ms : List Move)

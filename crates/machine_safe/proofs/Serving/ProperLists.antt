@@ -127,7 +127,6 @@ pub proper-logon : (script : Script) (by : Going) (t u : ObjNo) (s : ℕ) (exit 
     (ms : List Move)
     → IsProper script by (logon_move t u s exit stage) ms
 proper-logon script by t u s exit Cleaned ms = tt
-proper-logon script by t u s exit Buried ms = tt
 proper-logon script by t u s exit stage ms = tt
 
 -- moves that are proper with nobody that goes on, one behind the other

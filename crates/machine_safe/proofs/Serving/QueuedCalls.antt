@@ -1,7 +1,7 @@
 -- Each call that stands in a queue is declared, or has the number of a burial.
-use Rattle.std.proofs.Common.{Bool, List, None, Option, Some, [], arith, false, get_or, refl, subst, true, ℕ, ◌++◌, ◌∷◌, ◌≡◌, zero, suc, drop, slice_set}
+use Rattle.std.proofs.Common.{Bool, List, None, Option, Some, [], arith, false, get_or, refl, subst, true, ℕ, ◌++◌, ◌∷◌, ◌≡◌, zero, suc, slice_set}
 use Rattle.std.specs.List.{AllByRecursion}
-use Rattle.std.specs.Prelude.{filter, if◌then◌else◌, is_some, nat_lt, not, slice_get, ◌==◌, option_and_then, replicate}
+use Rattle.std.specs.Prelude.{if◌then◌else◌, is_some, nat_lt, not, slice_get, ◌==◌, option_and_then, replicate}
 use Rattle.sym_base.specs.declared.number.ObjNo.{ObjNo}
 use Rattle.script_types.specs.declared.script.Script.{Script}
 use Rattle.state_rows.proofs.SoundChanges.{set_item}
@@ -28,7 +28,8 @@ use Rattle.machine.specs.declared.state.State.{State}
 use Rattle.machine_safe.proofs.Serving.Proper.{Going, IsCalled, IsProper}
 use Rattle.machine_safe.proofs.Serving.ProperKept.{IsKept}
 use Rattle.machine_safe.proofs.Serving.ProperLists.{some-inside}
-use Rattle.move_laws.proofs.RowLaws.Declared.{all-both, first-all}
+use Rattle.move_laws.proofs.RowLaws.Declared.{first-all}
+use Rattle.move_laws.proofs.Lists.Each.{all-both, all-if, all-drop, all-filter}
 
 -- what waits in the immediate queue is declared
 abbrev pub IsDeclared : Script → Item → Type 0
@@ -38,24 +39,6 @@ IsDeclared script (item.Move call) = is_some (slice_get script.dfcs call) ≡ tr
 pub record AreCalled (script : Script) (r : DeferredRows) : Type 0 where
   pub queued : (q : ℕ) → AllByRecursion (IsCalled script) (queue_at r q)
   pub waiting : AllByRecursion (IsDeclared script) r.immediate
-
--- lists of such calls
-all-if : {A : Type 0} (P : A → Type 0) (queued : Bool) (xs : List A) (x : A) → P x → AllByRecursion P xs
-    → AllByRecursion P (if queued then xs else xs ++ x ∷ [])
-all-if P true xs x p all = all
-all-if P false xs x p all = all-both P xs (x ∷ []) all (p, tt)
-
-all-drop : {A : Type 0} (P : A → Type 0) (xs : List A) → AllByRecursion P xs → AllByRecursion P (drop 1 xs)
-all-drop P [] all = tt
-all-drop P (x ∷ xs) all = all.1
-
-all-if_first : {A : Type 0} (P : A → Type 0) (b : Bool) (x : A) (xs : List A) → P x → AllByRecursion P xs → AllByRecursion P (if b then x ∷ xs else xs)
-all-if_first P true x xs p all = (p, all)
-all-if_first P false x xs p all = all
-
-all-filter : {A : Type 0} (P : A → Type 0) (p : A → Bool) (xs : List A) → AllByRecursion P xs → AllByRecursion P (filter p xs)
-all-filter P p [] all = tt
-all-filter P p (x ∷ xs) all = all-if_first P (p x) x (filter p xs) all.0 (all-filter P p xs all.1)
 
 all-left : (P : ℕ → Type 0) (dfc : Option ℕ) (queue : List ℕ) → AllByRecursion P queue → AllByRecursion P (left dfc queue)
 all-left P None queue all = all

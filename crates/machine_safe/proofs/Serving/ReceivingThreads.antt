@@ -1,7 +1,7 @@
 -- What moves of others leave of a thread at a `receive`: its server stays its own, and closing or not, as it was; and where the thread waited for a
 -- message it does so still, or one is there.
 use Rattle.std.proofs.Common.{Bool, List, None, Option, Some, [], ap, arith, false, get_or, get_or-set_other, inl, inr, not, refl, subst, sym, true, ℕ, ◌+◌, ◌<◌, ◌≤◌, ◌∙◌, ◌∷◌, ◌≡◌, ◌⊎◌}
-use Rattle.std.proofs.lemmas.Bool.{and_parts, cases_eq, cases_lt, eqb-true}
+use Rattle.std.proofs.lemmas.Bool.{and_parts, cases_eq, cases_lt, eqb-true, not-true}
 use Rattle.std.specs.Prelude.{Contains, if◌then◌else◌, is_some, option_map}
 use Rattle.sym_base.specs.declared.number.MsgNo.{MsgNo}
 use Rattle.sym_base.specs.declared.number.ObjNo.{ObjNo}
@@ -40,12 +40,12 @@ use Rattle.machine_laws.proofs.Fitting.Regular.{doomed_bit, going_bit}
 use Rattle.machine_safe.proofs.Deaths.Runs.{each-dies}
 use Rattle.machine_safe.proofs.Serving.AwaitedMessages.{WasSent, WereSent, all-has, awaited-other, awaited-row, closing-other, copy-bits, finish-bits, new-bit, new_message, sent-bits, take-bits, untaken_bit, were-added, were-copied, were-finished, were-taken}
 use Rattle.machine_safe.proofs.Serving.ActionMoves.{IsGoing, going-then}
-use Rattle.machine_safe.proofs.Serving.OutstandingMessages.{same_number}
 use Rattle.machine_safe.proofs.Serving.ServerOwners.{OwnBefore, before-move}
 use Rattle.machine_safe.proofs.Serving.Proper.{AreProper, IsProper, IsTaking, LosesFirst, MayFinish, MayWake, Mark, awaited_by, first_made, marked, posted}
 use Rattle.move_laws.proofs.Lists.Contents.{found_there}
 use Rattle.move_laws.proofs.MoveLaws.CopyMoves.{copy_accepts}
 use Rattle.move_laws.proofs.References.Same.{same_object, same_self}
+use Rattle.machine_safe.proofs.Held.{same_message}
 
 -- in the middle of an action: the server that a thread owns, how many of its messages aren't taken, and, where the thread waited for one or one was
 -- there, so it is still
@@ -58,10 +58,6 @@ pub record IsMidst (C : Type 0) (u o : ObjNo) (on : Option ObjNo) (S : State) (l
   pub came : C
       → ((awaited_by (thread_of M u) ≡ Some o) × (awaited_by (thread_of S u) ≡ Some o))
       ⊎ ((0 < total (untaken_bit o) M.serving.messages.outstanding) × (is_closing S.serving.servers o ≡ false))
-
-not-true : (b : Bool) → not b ≡ true → b ≡ false
-not-true true e = absurd (cc)
-not-true false e = refl
 
 -- the row of the server
 abbrev SameServer : ObjNo → ServerRows → ServerRows → Type 0
@@ -216,7 +212,7 @@ module _ (script : Script) (C : Type 0) (u o : ObjNo) (on : Option ObjNo) (S : S
         among = found_there (has_number m) M.serving.messages.outstanding found there
 
         number : found.number ≡ m
-        number = same_number found.number m (eqb-true found.number.0 m.0 among.1)
+        number = same_message found.number m (eqb-true found.number.0 m.0 among.1)
 
         given : found.number.0 ≤ S.serving.messages.accepted
         given =

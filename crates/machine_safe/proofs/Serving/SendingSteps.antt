@@ -31,7 +31,7 @@ use Rattle.state_rows.specs.Nano.{held_by}
 use Rattle.state_rows.specs.ObjectRows.{named}
 use Rattle.state_rows.specs.Requests.{is_pending, reply_of}
 use Rattle.state_rows.specs.declared.thread.Stage.TheVariants.{Live}
-use Rattle.state_rows.specs.ServerRows.{accepts, is_closing, is_to_open, owner_of, server_at, server_of, session_at}
+use Rattle.state_rows.specs.ServerRows.{is_closing, is_to_open, owner_of, server_at, session_at}
 use Rattle.state_rows.specs.declared.messages.Way.{Way}
 use Rattle.state_rows.specs.declared.messages.Way.TheVariants.{Async, Sync}
 use Rattle.state_rows.specs.declared.servers.ServerRow.{ServerRow}
@@ -39,7 +39,7 @@ use Rattle.state_rows.specs.declared.thread.ThreadRow.{ThreadRow}
 use Rattle.std.proofs.Common.{Bool, None, Some, [], ap, arith, false, pos, refl, subst, sym, true, ℕ, ℤ, ◌++◌, ◌∷◌, ◌≡◌, List, Option, inl, inr, ◌<◌, ◌≤◌}
 use Rattle.std.proofs.lemmas.List.{append-nil}
 use Rattle.std.specs.Ordering.{int_eq}
-use Rattle.std.specs.Prelude.{if◌then◌else◌, is_some, not}
+use Rattle.std.specs.Prelude.{if◌then◌else◌, is_some}
 use Rattle.sym_base.specs.declared.kind.Arg.{Arg}
 use Rattle.sym_base.specs.declared.kind.Slots.{Slots}
 use Rattle.sym_base.specs.declared.word.Word.TheVariants as word
@@ -60,18 +60,7 @@ use Rattle.machine.specs.WellFormed.{IsLiveThread}
 use Rattle.machine_safe.proofs.Serving.Connecting.{keeps_handle}
 use Rattle.machine.specs.Out.{is_returning}
 use Rattle.move_laws.proofs.References.Same.{same_is}
-
--- the server that accepts is the session's, and isn't closing
-pub open_is : (S : State) (s o : ObjNo) → open_server S s ≡ Some o → is_closing S.serving.servers o ≡ false
-open_is S s o e = by (server_of S.serving.servers s) e
-  where
-    by : (v : Option ObjNo) → (if accepts S.serving.servers v then v else None) ≡ Some o → is_closing S.serving.servers o ≡ false
-    by None e = absurd (cc)
-    by (Some v) e = where_open (is_closing S.serving.servers v) refl e
-      where
-        where_open : (b : Bool) → is_closing S.serving.servers v ≡ b → (if not b then Some v else None) ≡ Some o → is_closing S.serving.servers o ≡ false
-        where_open true is e = absurd (cc)
-        where_open false is e = let own : v ≡ o = cc in subst (λ (x : ObjNo). is_closing S.serving.servers x ≡ false) own is
+use Rattle.machine_safe.proofs.Serving.ProperLists.{open-accepts}
 
 -- a receiver that wakes
 pub woken-quiet : (S : State) (o : ObjNo) (rest : List Move) → total serving_bit rest ≡ 0
@@ -111,7 +100,7 @@ sending {S = S} {t = t} d front rest s o function args way moves silent quiet ch
       client = refl;
       live = live;
       linked = linked_server S s o opens;
-      accepting = open_is S s o opens;
+      accepting = open-accepts S s o opens;
       way = told;
       named = named;
       closed = closed;

@@ -15,7 +15,7 @@ use Rattle.machine.specs.declared.moves.Move.TheVariants.{Messages}
 use Rattle.machine.specs.declared.state.State.{State}
 use Rattle.machine_laws.proofs.Fitting.Regular.{serving_bit}
 use Rattle.machine_safe.proofs.Serving.ServerActions.{IsSending, Looked, status_of_way, IsAnswered}
-use Rattle.machine_safe.proofs.Serving.ActionMoves.{Doing, IsGoing, fits-front, going, keeps-doing, perform-append, tell-append}
+use Rattle.machine_safe.proofs.Serving.ActionMoves.{Doing, IsGoing, fits-front, going, keeps-doing}
 use Rattle.machine_safe.proofs.Serving.KeptServers.{Keeps, changing-none, changing_bit, message-none, message_bit, there-row}
 use Rattle.machine_safe.proofs.Serving.OutstandingMessages.{letters-more}
 use Rattle.machine_safe.proofs.Serving.KeptMessages.{Post, post_of, quiet-each, posts}
@@ -54,6 +54,8 @@ use Rattle.machine.specs.Rows.{thread_of}
 use Rattle.machine_safe.proofs.Deaths.Rows.{row_bit, stage_live}
 use Rattle.entry_log.specs.declared.effect.Effect.TheVariants.{Doom}
 use Rattle.machine_safe.specs.SafeDeaths.{dooms}
+use Rattle.machine_laws.proofs.Sharing.Moved.{tell-both}
+use Rattle.machine_laws.proofs.Fitting.Stepping.{perform-append}
 
 -- what moves do in which one message is accepted
 record IsPosted (S T : State) (t : ObjNo) (slots : Slots) (row : MsgRow) (effects : List Effect) : Type 0 where
@@ -90,7 +92,7 @@ posted-moves script S t front back slots row fits silent quiet still =
     let behind = quiet-each script U t back both.1.1 still in
     let n = next_number T.serving.messages in
     let performed = perform-append t front (m ∷ back) S in
-    let told_all = tell-append t front (m ∷ back) S in
+    let told_all = tell-both t front (m ∷ back) S in
     let told : tell t (front ++ m ∷ back) S
     ≡ effect.Accept n ∷ effect.Plus (holder.Message n) row.session ∷ effect.Plus
     (holder.Message n) row.client ∷ tell t back U =

@@ -162,6 +162,74 @@ positive : (old : Bool) (a d : ℕ) → old ≡ nat_lt 0 a → (old ≡ false �
 positive true a d is began = let some = bit-some true a is refl in omega arith
 positive false a d is began = let some = began refl in omega arith
 
+-- a state in which nothing but rows of servers may be other
+pub record IsBesideServers (S M : State) : Type 0 where
+  pub linked : (s : ObjNo) → server_of M.serving.servers s ≡ server_of S.serving.servers s
+  pub sessions : (s : ObjNo) → session_at M.serving.servers s ≡ session_at S.serving.servers s
+  pub owned : M.serving.owned ≡ S.serving.owned
+  pub threads : M.references.threads ≡ S.references.threads
+  pub objects : (s : ObjNo) → object_of M s ≡ object_of S s
+
+-- all that stays with such moves, beside the rows of servers
+module _ (script : Script) (r : Reading) (S M T : State) (t : ObjNo) (ms : List Move) (done : Step) (fs : List Effect)
+    (h : Served script r S) (beside : IsBesideServers S M) (k : Keeps M T t ms fs)
+    (unmade : (v : ObjNo) → made_by done fs v ≡ None)
+    (detached : (s v : ObjNo) → 0 < total (detach_bit v) ms → is_over_by (further r done fs (steps_of t ms)) s v ≡ true)
+    (rows : (o : ObjNo) (row : ServerRow) → server_at T.serving.servers o ≡ Some row
+    → IsServed (further r done fs (steps_of t ms)) T o row)
+    (ended : (o : ObjNo) (row : ServerRow) → server_at T.serving.servers o ≡ Some row → 0 < ends_by r o → row.is_closing ≡ true) where
+  abbrev told_later : Reading
+  told_later = further r done fs (steps_of t ms)
+
+  ends-stay : (v : ObjNo) → ends_by told_later v ≡ ends_by r v
+  ends-stay v = let a = ends-on r done fs (steps_of t ms) v (unmade v) in let b = k.unended v in omega arith
+
+  owned-stay : T.serving.owned ≡ S.serving.owned
+  owned-stay = k.owned ∙ beside.owned
+
+  told_before : (s v : ObjNo) → server_told (r.effects ++ fs) s ≡ Some v → server_told r.effects s ≡ Some v
+  told_before s v is = sym (server_told-append r.effects fs s ∙ ap (λ (x : Option ObjNo). or_before x (server_told r.effects s)) (k.unlinked s)) ∙ is
+
+  pub served-beside : Served script told_later T
+  served-beside = record {
+    rows = rows;
+    links =
+        λ s o is. server_told-append r.effects fs s
+        ∙ (ap (λ (x : Option ObjNo). or_before x (server_told r.effects s)) (k.unlinked s)
+        ∙ h.links s o (sym (beside.linked s) ∙ k.links s o is));
+    same =
+        λ s o is. remade-on r done fs (steps_of t ms) s o (unmade o) (joined-none done fs s (k.unlinked s))
+        ∙ h.same s o (sym (beside.linked s) ∙ k.links s o is);
+    ended = λ o row is some. let a = ends-stay o in ended o row is (omega arith);
+    over =
+        λ u o some. ap (λ (l : List (List ObjNo)). times_owned l u o) owned-stay
+        ∙ h.over u o (let a = ends-stay o in omega arith);
+    made = λ u o is. elim (h.made u o (sym (owner-on r done fs (steps_of t ms) o (unmade o)) ∙ is)) as
+        (λ _. (0 < times_owned T.serving.owned u o) ⊎ (0 < ends_by told_later o)) [
+          | inl owned ↦ inl (subst (λ (l : List (List ObjNo)). 0 < times_owned l u o) (sym owned-stay) owned)
+          | inr over ↦ inr (let a = ends-stay o in omega arith)
+        ];
+    places = λ n row is.
+        let w = k.threads n row is in
+        let old = h.places n w.old (ap (λ (l : List (Option ThreadRow)). get_or l n None) (sym beside.threads) ∙ w.was) in
+        record { first = old.first; is = old.is; role = old.role ∙ w.role; place = let a = w.place in let b = old.place in omega arith };
+    told_linked = λ s v row is there alive.
+        let old = k.slots s row there in
+        let lives = subst IsAlive (beside.objects s) (k.alive s row there alive) in
+        elim (h.told_linked s v old.old (told_before s v is) (sym (beside.sessions s) ∙ old.was) lives) as
+        (λ _. (server_of T.serving.servers s ≡ Some v) ⊎ (is_over_by told_later s v ≡ true)) [
+          | inr over ↦ inr (over-on r done fs (steps_of t ms) s v (unmade v) (k.unlinked s) over)
+          | inl linked ↦ elim (k.linked s v row there (beside.linked s ∙ linked)) as
+              (λ _. (server_of T.serving.servers s ≡ Some v) ⊎ (is_over_by told_later s v ≡ true)) [
+                | inl still ↦ inl still
+                | inr other ↦ elim other as (λ _. (server_of T.serving.servers s ≡ Some v) ⊎ (is_over_by told_later s v ≡ true)) [
+                  | inl dead ↦ absurd (dead alive)
+                  | inr gone ↦ inr (detached s v gone)
+                ]
+              ]
+        ];
+  }
+
 -- moves that leave servers and sessions
 module _ (script : Script) (r : Reading) (S T : State) (t : ObjNo) (ms : List Move) (done : Step) (fs : List Effect)
     (h : Served script r S) (k : Keeps S T t ms fs)
@@ -178,9 +246,6 @@ module _ (script : Script) (r : Reading) (S T : State) (t : ObjNo) (ms : List Mo
 
   same-owner : (v : ObjNo) → told_then.owner v ≡ r.owner v
   same-owner v = owner-on r done fs (steps_of t ms) v (no-owner v)
-
-  same-ends : (v : ObjNo) → ends_by told_then v ≡ ends_by r v
-  same-ends v = let a = ends-on r done fs (steps_of t ms) v (no-owner v) in let b = k.unended v in omega arith
 
   row-then : (o : ObjNo) (row : ServerRow) → server_at T.serving.servers o ≡ Some row → IsServed told_then T o row
   row-then o row is =
@@ -218,43 +283,9 @@ module _ (script : Script) (r : Reading) (S T : State) (t : ObjNo) (ms : List Mo
       opposite false b f e = refl
       opposite true b f e = let so = f refl in absurd (cc)
 
-  told_before : (s v : ObjNo) → server_told (r.effects ++ fs) s ≡ Some v → server_told r.effects s ≡ Some v
-  told_before s v is = sym (server_told-append r.effects fs s ∙ ap (λ (x : Option ObjNo). or_before x (server_told r.effects s)) (k.unlinked s)) ∙ is
-
   pub served-keeps : Served script told_then T
-  served-keeps = record {
-    rows = row-then;
-    links =
-        λ s o is. server_told-append r.effects fs s
-        ∙ (ap (λ (x : Option ObjNo). or_before x (server_told r.effects s)) (k.unlinked s) ∙ h.links s o (k.links s o is));
-    same =
-        λ s o is. remade-on r done fs (steps_of t ms) s o (no-owner o) (joined-none done fs s (k.unlinked s))
-        ∙ h.same s o (k.links s o is);
-    ended = λ o row is some. let w = k.servers o row is in let a = same-ends o in w.still (h.ended o w.old w.was (omega arith));
-    over =
-        λ u o some. ap (λ (l : List (List ObjNo)). times_owned l u o) k.owned
-        ∙ h.over u o (let a = same-ends o in omega arith);
-    made = λ u o is. elim (h.made u o (sym (same-owner o) ∙ is)) as (λ _. (0 < times_owned T.serving.owned u o) ⊎ (0 < ends_by told_then o)) [
-      | inl owned ↦ inl (subst (λ (l : List (List ObjNo)). 0 < times_owned l u o) (sym k.owned) owned)
-      | inr over ↦ inr (let a = same-ends o in omega arith)
-    ];
-    places = λ n row is.
-        let w = k.threads n row is in
-        let old = h.places n w.old w.was in
-        record { first = old.first; is = old.is; role = old.role ∙ w.role; place = let a = w.place in let b = old.place in omega arith };
-    told_linked = λ s v row is there alive.
-        let was = told_before s v is in
-        let old = k.slots s row there in
-        elim (h.told_linked s v old.old was old.was (k.alive s row there alive)) as
-        (λ _. (server_of T.serving.servers s ≡ Some v) ⊎ (is_over_by told_then s v ≡ true)) [
-          | inr over ↦ inr (over-on r done fs (steps_of t ms) s v (no-owner v) (k.unlinked s) over)
-          | inl linked ↦ elim (k.linked s v row there linked) as (λ _. (server_of T.serving.servers s ≡ Some v) ⊎ (is_over_by told_then s v ≡ true)) [
-            | inl still ↦ inl still
-            | inr other ↦ elim other as (λ _. (server_of T.serving.servers s ≡ Some v) ⊎ (is_over_by told_then s v ≡ true)) [
-              | inl dead ↦ absurd (dead alive)
-              | inr detached ↦
-                  inr (over-on r done fs (steps_of t ms) s v (no-owner v) (k.unlinked s) (over-row script r S s v h (detaches v detached)))
-            ]
-          ]
-        ];
-  }
+  served-keeps =
+      served-beside script r S S T t ms done fs h
+      (record { linked = λ s. refl; sessions = λ s. refl; owned = refl; threads = refl; objects = λ s. refl }) k no-owner
+      (λ s v some. over-on r done fs (steps_of t ms) s v (no-owner v) (k.unlinked s) (over-row script r S s v h (detaches v some)))
+      row-then (λ o row is some. let w = k.servers o row is in w.still (h.ended o w.old w.was some))

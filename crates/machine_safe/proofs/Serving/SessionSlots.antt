@@ -31,6 +31,7 @@ use Rattle.sym_base.specs.declared.number.ObjNo.{ObjNo}
 use Rattle.machine_safe.proofs.Serving.EffectSums.{finishes-append, server_told-append}
 use Rattle.std.proofs.lemmas.List.Elements.{filter-append}
 use Rattle.machine.specs.EntryWords.{is_send}
+use Rattle.std.proofs.Math.Bool.{and-false, and-true}
 
 -- what is told last
 slots-none : (x : Option Slots) → slots_before x None ≡ x
@@ -159,14 +160,6 @@ filter-both {A} p q (x ∷ xs) = by (p x) (q x) refl (filter-both p q xs)
     by true false e rest = rest ∙ sym (ap (λ (d : Bool). if d then x ∷ filter q (filter p xs) else filter q (filter p xs)) e)
     by false c e rest = rest
 
-and-yes : (b : Bool) → (b && true) ≡ b
-and-yes true = refl
-and-yes false = refl
-
-and-no : (b : Bool) → (b && false) ≡ false
-and-no true = refl
-and-no false = refl
-
 -- what is open stays so where it isn't finished
 open-same : (fs gs : List Effect) (x : SentOver) → finishes gs x.number ≡ 0 → is_open_in (fs ++ gs) x ≡ is_open_in fs x
 open-same fs gs x none =
@@ -225,11 +218,11 @@ sends-less before e p none goes =
         → is_open_in (effects_of (before ++ e ∷ [])) x ≡ (is_open_in (effects_of before) x && not b)
     by x true one = eqb_apart (finishes (effects_of (before ++ e ∷ [])) x.number) 0
         (λ zero. let a = count x in absurd (omega arith))
-        ∙ sym (and-no (is_open_in (effects_of before) x))
+        ∙ sym (and-false (is_open_in (effects_of before) x))
     by x false zero = ap (λ (n : ℕ). n == 0)
         (let a = count x in let same : finishes (effects_of (before ++ e ∷ [])) x.number
         ≡ finishes (effects_of before) x.number = omega arith in same)
-        ∙ sym (and-yes (is_open_in (effects_of before) x))
+        ∙ sym (and-true (is_open_in (effects_of before) x))
 
 -- the posts that are left where one goes
 pub over-less : (m : MsgNo) (xs : List Message)

@@ -33,7 +33,7 @@ use Rattle.machine_safe.specs.CountAfter.{effects_of}
 use Rattle.machine_safe.specs.SafeMessages.{NothingLeft}
 use Rattle.machine_safe.specs.Sent.{finishes}
 use Rattle.machine_safe.specs.Served.{ends, ends_in, or_before, owner_in, server_told}
-use Rattle.move_laws.proofs.Lists.Contents.{contains_behind, contains_cases, contains_first, contains_map, none_contained}
+use Rattle.move_laws.proofs.Lists.Contents.{contains_map, none_contained, filter_contains}
 use Rattle.move_laws.proofs.References.Same.{eqb_apart, if_not, if_zero, same_is, same_self}
 use Rattle.move_laws.proofs.Lives.LivesMove.{zero_or}
 use Rattle.state_rows.specs.declared.servers.ServerRow.{ServerRow}
@@ -42,10 +42,10 @@ use Rattle.move_laws.proofs.RowLaws.OwnedServers.{owned_inside}
 use Rattle.script_types.specs.declared.script.Script.{Script}
 use Rattle.state_rows.specs.MessageRows.{is_at}
 use Rattle.state_rows.specs.declared.messages.Message.{Message}
-use Rattle.std.proofs.Common.{Bool, List, None, Option, Some, [], arith, false, inl, inr, refl, sym, true, ℕ, ◌++◌, ◌+◌, ◌<◌, ◌∙◌, ◌∷◌, ◌≡◌, subst, ap}
+use Rattle.std.proofs.Common.{List, None, Option, Some, [], arith, inl, inr, refl, sym, ℕ, ◌++◌, ◌+◌, ◌<◌, ◌∙◌, ◌∷◌, ◌≡◌, subst, ap}
 use Rattle.std.proofs.lemmas.Bool.{eq-eqb}
 use Rattle.std.proofs.lemmas.List.{append-nil}
-use Rattle.std.specs.Prelude.{Contains, filter, if◌then◌else◌, ◌==◌}
+use Rattle.std.specs.Prelude.{Contains, if◌then◌else◌, ◌==◌}
 use Rattle.sym_base.specs.declared.number.ObjNo.{ObjNo}
 use Rattle.machine_safe.proofs.Serving.ClosedAsTold.{served-stopped, served-closing}
 use Rattle.machine_safe.proofs.Serving.KeptUses.{session-closed}
@@ -58,16 +58,6 @@ use Rattle.machine_safe.specs.SafeMessages.{IsEnd}
 -- how often two objects are one
 abbrev same_bit : ObjNo → ObjNo → ℕ
 same_bit x y = if x.0 == y.0 then 1 else 0
-
--- what passes a filter stands in what it leaves
-filter_there : {A : Type 0} (p : A → Bool) (xs : List A) (y : A) → Contains xs y → p y ≡ true → Contains (filter p xs) y
-filter_there p [] y there passes = there
-filter_there {A} p (x ∷ xs) y there passes = by (p x) refl (λ z. filter_there p xs z)
-  where
-    by : (b : Bool) → p x ≡ b → ((z : A) → Contains xs z → p z ≡ true → Contains (filter p xs) z) → Contains (if b then x ∷ filter p xs else filter p xs) y
-    by true is rest = contains_cases (λ z. p z ≡ true → Contains (x ∷ filter p xs) z) x xs y there
-        (λ _. contains_first (filter p xs) x) (λ z behind ok. contains_behind x (filter p xs) z (rest z behind ok)) passes
-    by false is rest = contains_cases (λ z. p z ≡ true → Contains (filter p xs) z) x xs y there (λ ok. absurd (cc)) (λ z behind ok. rest z behind ok) passes
 
 module _ (script : Script) (before : List Entry) (S : State) (place : ℕ) (t : ObjNo) (rows : AreRows script S) (book : Book script before S) where
   made : AreMade S
@@ -282,7 +272,7 @@ module _ (script : Script) (before : List Entry) (S : State) (place : ℕ) (t : 
       left : (p : Post) → Contains (posts S) p → (p.server.0 ≡ is.server.0 → ⊥)
       left p among at =
           let was = posted p among in
-          let there = filter_there (is_at is.server.0) S.serving.messages.outstanding was.0 was.1
+          let there = filter_contains (is_at is.server.0) S.serving.messages.outstanding was.0 was.1
           (eq-eqb was.0.row.server.0 is.server.0 (ap (λ (x : Post). x.server.0) was.2 ∙ at)) in
           none_contained was.0 (subst (λ (l : List Message). Contains l was.0) may.finished there)
 

@@ -13,7 +13,7 @@ use Rattle.machine.specs.Rows.{owed_of, table_of, thread_of}
 use Rattle.machine.specs.ServerMoves.{owned_lose, servers_closed, servers_lose}
 use Rattle.machine.specs.WellFormed.{weight}
 use Rattle.machine.specs.declared.state.State.{State}
-use Rattle.machine_safe.proofs.Weight.Lighter.{Lighter, RowKept, lighter-parts, row-changed, row-same, row-then}
+use Rattle.machine_safe.proofs.Weight.Lighter.{Lighter, RowKept, lighter-parts, row-changed, row-same, row-then, row-left}
 use Rattle.machine_safe.proofs.Weight.Lists.{total-less}
 use Rattle.machine_safe.proofs.Weight.Parts.{links-gone, servers-fewer, servers-less, table-freed}
 use Rattle.machine_safe.specs.Weight.{GetsNoMore, handles_in, links_left, links_to, messages_left, messages_to, mutexes_of, servers_of}
@@ -46,8 +46,7 @@ closed-row : (b : Bool) (o : ObjNo) (threads : List (Option ThreadRow)) (t : Obj
     → get_or threads t.0 None ≡ Some row
     → (new : ThreadRow) × (get_or (threads_closed b o threads) t.0 None ≡ Some new) × RowKept row new
 closed-row true o threads t row is =
-    row-changed threads o t unlinked row is
-    (inr (record { stage = refl; process = refl; find = omega arith; used = omega arith }))
+    row-changed threads o t unlinked row is (inr (row-left refl))
 closed-row false o threads t row is = (row, is, row-same row)
 
 lost-row : (h : Holder) (threads : List (Option ThreadRow)) (t : ObjNo) (row : ThreadRow)

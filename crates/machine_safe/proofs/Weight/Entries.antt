@@ -61,7 +61,6 @@ use Rattle.machine_safe.proofs.Serving.Proper.{AreProper, stepping}
 use Rattle.move_laws.proofs.Lists.Cases.{if_cases}
 use Rattle.move_laws.proofs.Lists.Totals.{total-append}
 use Rattle.machine_safe.proofs.Weight.Lighter.{Lighter, lighter-at-most, lighter-none}
-use Rattle.machine_safe.proofs.Weight.Lists.{none-or}
 use Rattle.machine_safe.proofs.Weight.Lowers.{are_aside, aside-quiet, lighter-each}
 use Rattle.machine_safe.proofs.Weight.ProcessTables.{gains-by}
 use Rattle.machine_safe.proofs.Weight.Moves.{gain_bit, made_bit, open-unowned, post_bit}
@@ -69,6 +68,7 @@ use Rattle.machine_safe.proofs.Weight.Others.{lighter-pay}
 use Rattle.machine_safe.proofs.Weight.Own.{IsQuiet, quiet-both, quiet-end, quiet-none, quiet-refused, quiet-reply_to}
 use Rattle.machine_safe.specs.SafeWeights.{handles_by}
 use Rattle.machine_safe.specs.Weight.{servers_of}
+use Rattle.move_laws.proofs.Lives.LivesMove.{zero_or}
 
 -- moves that serve nobody send no message, nor do those by which none comes or goes
 posts-serving : (own : ObjNo → ℕ) (ms : List Move) → total serving_bit ms ≡ 0 → total (post_bit own) ms ≡ 0
@@ -176,7 +176,7 @@ module _ (script : Script) (S : State) (t : ObjNo) (row : ThreadRow) (shaped : I
 
   -- no message is sent to a server of the thread
   unowned : (o : ObjNo) → is_closing S.serving.servers o ≡ false → owns o ≡ 0
-  unowned o accepting = none-or (owns o) (λ some. open-unowned script S t t row rows is doomed o accepting some)
+  unowned o accepting = zero_or (owns o) (λ some. open-unowned script S t t row rows is doomed o accepting some)
 
   abbrev Posts : Decision → Type 0
   Posts d = total (post_bit owns) d.moves ≡ 0

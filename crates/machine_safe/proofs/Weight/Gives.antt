@@ -1,6 +1,6 @@
 -- What a doomed thread gives up makes it lighter: one lemma for each kind of thing.
 use Rattle.std.proofs.Common.{◌≡◌, inr, ℕ, ◌+◌, ◌*◌, ◌<◌, ◌≤◌, List, [], ◌∷◌, length, get_or, arith, refl, sym, ap, subst, ◌∙◌, Bool, true, false, Option, Some, None}
-use Rattle.std.specs.Prelude.{Contains, if◌then◌else◌, is_some, not, option_map, ℤ, ◌&&◌, ◌==◌, ◌||◌}
+use Rattle.std.specs.Prelude.{Contains, if◌then◌else◌, is_some, not, option_map, ℤ, ◌==◌, ◌||◌}
 use Rattle.std.proofs.lemmas.Bool.{eq-eqb}
 use Rattle.std.proofs.lemmas.List.{get_or-set_other}
 use Rattle.sym_base.specs.declared.number.ObjNo.{ObjNo}
@@ -35,19 +35,20 @@ use Rattle.machine.specs.declared.moves.Move.TheVariants.{Lose, Locks, Logons, D
 use Rattle.machine.specs.declared.state.State.{State}
 use Rattle.move_laws.proofs.Holders.ThreadRows.{row-here}
 use Rattle.move_laws.proofs.Lists.Mapped.{mapped-value}
-use Rattle.move_laws.proofs.Lists.Totals.{get-with, inside, total_any, total_within}
+use Rattle.move_laws.proofs.Lists.Totals.{get-with, inside, total_any, total_within, total-filter}
 use Rattle.move_laws.proofs.MoveLaws.Closes.{close_weight_unlinked}
 use Rattle.move_laws.proofs.MoveLaws.Run.{sane-after, sound-move, weight-move}
 use Rattle.move_laws.proofs.References.Same.{eqb_apart, same_self}
 use Rattle.move_laws.proofs.RowLaws.Duties.{weight-owing}
 use Rattle.machine_safe.proofs.Weight.Closes.{HasLess, IsClosed, has-less}
 use Rattle.machine_safe.proofs.Weight.Lighter.{gets-same, lighter-at-most}
-use Rattle.machine_safe.proofs.Weight.Lists.{filter-gone, filter-less, total-less_one, without-length}
+use Rattle.machine_safe.proofs.Weight.Lists.{filter-gone, total-less_one, without-length}
 use Rattle.machine_safe.proofs.Weight.Lowers.{Lowered, are_aside, aside-quiet, lighter-each, lowered-then}
 use Rattle.machine_safe.proofs.Weight.Moves.{gain_bit, made_bit, post_bit}
 use Rattle.machine_safe.proofs.Weight.Others.{waiter-apart}
 use Rattle.machine_safe.proofs.Weight.Parts.{links-gone, messages-finished, table-freed_one}
 use Rattle.machine_safe.specs.Weight.{GetsNoMore, handles_in, links_left, links_to, messages_to, mutexes_of, servers_of, use_bit}
+use Rattle.machine_laws.proofs.Fitting.Closing.{stays_with}
 
 -- logons without one
 logons-without : (u : ObjNo) (s : ℕ) (xs : List (ObjNo × ℕ)) → length (without_logon u s xs) + total (logon_names u s) xs ≡ length xs
@@ -68,10 +69,6 @@ held-named s (x ∷ xs) e = by (x.0 == s.0) refl e (λ there. held-named s xs th
     by : (b : Bool) → (x.0 == s.0) ≡ b → (b || holds s xs) ≡ true → (holds s xs ≡ true → 0 < total (mutex_names s) xs) → 0 < same x s + total (mutex_names s) xs
     by true at e rest = let one : same x s ≡ 1 = ap (λ (c : Bool). if c then 1 else 0) at in omega arith
     by false at e rest = let some = rest e in omega arith
-
-stays_with : (one kept : Bool) → one ≡ false → (one && not kept) ≡ false
-stays_with true kept e = absurd (cc)
-stays_with false kept e = refl
 
 -- a handle of a thread's table, and of its process's
 abbrev pub IsOfThread : ThreadRow → Holder → Type 0
@@ -143,7 +140,7 @@ module _ (script : Script) (S : State) (t : ObjNo) (row : ThreadRow) (rows : Are
       fewer T left serving = record {
         mutexes =
             λ x. let e = ap (total (mutex_names x)) left in
-            let f = filter-less (mutex_names x) (λ (other : ObjNo). not (other.0 == o.0)) (mutexes_of S t) in omega arith;
+            let f = total-filter (mutex_names x) (λ (other : ObjNo). not (other.0 == o.0)) (mutexes_of S t) in omega arith;
         servers = λ x. let e = ap (λ s. total (mutex_names x) (owned_by s.owned t)) serving in omega arith;
         messages = λ x some. let e = ap (λ s. length (messages_at s.messages x)) serving in omega arith;
         links = λ x some. let e = ap (λ s. length (linked_at s.servers x)) serving in omega arith;

@@ -3,10 +3,12 @@ use Rattle.std.proofs.Common.{◌≡◌, ◌⊎◌, inl, inr, ℕ, ◌+◌, ◌*
 use Rattle.std.specs.Prelude.{option_map}
 use Rattle.std.proofs.lemmas.Bool.{cases_eq}
 use Rattle.sym_base.specs.declared.number.ObjNo.{ObjNo}
+use Rattle.entry_log.specs.declared.step.Part.{Part}
 use Rattle.state_rows.specs.declared.duty.Owed.{Owed}
 use Rattle.state_rows.specs.declared.handle_slot.HandleSlot.{HandleSlot}
 use Rattle.state_rows.specs.declared.messages.MessageRows.{MessageRows}
 use Rattle.state_rows.specs.MessageRows.{messages_at}
+use Rattle.state_rows.specs.declared.thread.Stage.{Stage}
 use Rattle.state_rows.specs.declared.thread.ThreadRow.{ThreadRow}
 use Rattle.machine.specs.Holdings.{stage_left}
 use Rattle.machine.specs.LogonMoves.{logons_on}
@@ -31,6 +33,17 @@ pub record RowKept (row new : ThreadRow) : Type 0 where
 
 pub row-same : (row : ThreadRow) → RowKept row row
 row-same row = record { stage = refl; process = refl; find = omega arith; used = omega arith }
+
+-- one that keeps its stage, its process, its part and what it uses
+pub row-left : {row new : ThreadRow}
+    → ◌≡◌ {A = Stage × ObjNo × Option Part × Option ObjNo} (new.stage, new.process, new.part, new.uses) (row.stage, row.process, row.part, row.uses)
+    → RowKept row new
+row-left same = record {
+  stage = ap (λ (r : Stage × ObjNo × Option Part × Option ObjNo). r.0) same;
+  process = ap (λ (r : Stage × ObjNo × Option Part × Option ObjNo). r.1) same;
+  find = let part = ap (λ (r : Stage × ObjNo × Option Part × Option ObjNo). find_bit r.2) same in omega arith;
+  used = let uses = ap (λ (r : Stage × ObjNo × Option Part × Option ObjNo). use_bit r.3) same in omega arith;
+}
 
 pub row-then : (row new last : ThreadRow) → RowKept row new → RowKept new last → RowKept row last
 row-then row new last h g = record {

@@ -7,11 +7,7 @@ use Rattle.state_rows.specs.ServerChanges.{without}
 use Rattle.machine.specs.References.{mutex_names, same, total}
 use Rattle.move_laws.proofs.Lists.Contents.{contains_cases, none_contained}
 use Rattle.move_laws.proofs.References.Same.{same_object, same_self}
-
--- a number that isn't more than 0
-pub none-or : (n : ℕ) → (0 < n → ⊥) → n ≡ 0
-none-or zero no_more = refl
-none-or (suc n) no_more = absurd (no_more (omega arith))
+use Rattle.move_laws.proofs.Lists.Totals.{total-filter}
 
 -- an item that is set adds its number at most
 pub total-set_most : {A : Type 0} (f : A → ℕ) (xs : List A) (i : ℕ) (y : A) → total f (slice_set xs i y) ≤ total f xs + f y
@@ -25,14 +21,6 @@ filter-shorter p [] = omega arith
 filter-shorter p (x ∷ xs) = by (p x) (filter-shorter p xs)
   where
     by : (b : Bool) → length (filter p xs) ≤ length xs → length (if b then x ∷ filter p xs else filter p xs) ≤ length (x ∷ xs)
-    by true r = omega arith
-    by false r = omega arith
-
-pub filter-less : {A : Type 0} (f : A → ℕ) (p : A → Bool) (xs : List A) → total f (filter p xs) ≤ total f xs
-filter-less f p [] = omega arith
-filter-less f p (x ∷ xs) = by (p x) (filter-less f p xs)
-  where
-    by : (b : Bool) → total f (filter p xs) ≤ total f xs → total f (if b then x ∷ filter p xs else filter p xs) ≤ f x + total f xs
     by true r = omega arith
     by false r = omega arith
 
@@ -135,7 +123,7 @@ without-total f o [] some = absurd (omega arith)
 without-total f o (x ∷ xs) some = by (x.0 == o.0) refl (λ more. without-total f o xs more)
   where
     less : total f (without o xs) ≤ total f xs
-    less = filter-less f (λ (other : ObjNo). not (other.0 == o.0)) xs
+    less = total-filter f (λ (other : ObjNo). not (other.0 == o.0)) xs
 
     by : (b : Bool) → (x.0 == o.0) ≡ b → (0 < total (mutex_names o) xs → total f (without o xs) + f o ≤ total f xs)
         → total f (if not b then x ∷ without o xs else without o xs) + f o ≤ f x + total f xs

@@ -1,5 +1,5 @@
 -- A doomed thread that weighs less after some moves of its own.
-use Rattle.std.proofs.Common.{◌≡◌, ◌⊎◌, inl, inr, ℕ, ◌+◌, ◌*◌, ◌≤◌, List, [], ◌∷◌, ◌++◌, arith, refl, ap, ◌∙◌, Bool, true, false, Some}
+use Rattle.std.proofs.Common.{◌≡◌, ◌⊎◌, inl, inr, ℕ, ◌+◌, ◌*◌, ◌≤◌, List, [], ◌∷◌, ◌++◌, arith, refl, ap, ◌∙◌, Bool, true, Some}
 use Rattle.std.specs.Prelude.{◌&&◌}
 use Rattle.sym_base.specs.declared.number.ObjNo.{ObjNo}
 use Rattle.script_types.specs.declared.script.Script.{Script}
@@ -18,6 +18,7 @@ use Rattle.machine_safe.proofs.Weight.Lighter.{Lighter, gets-then, lighter-none,
 use Rattle.machine_safe.proofs.Weight.Moves.{gain_bit, is_aside, made_bit, post_bit}
 use Rattle.machine_safe.proofs.Weight.Others.{lighter-move}
 use Rattle.machine_safe.specs.Weight.{GetsNoMore, servers_of, weight_of}
+use Rattle.std.proofs.lemmas.Bool.{and_parts}
 
 -- it weighs less, and is doomed still or cleaned
 pub record Lowered (S T : State) (t : ObjNo) (row : ThreadRow) : Type 0 where
@@ -51,15 +52,10 @@ abbrev pub are_aside : List Move → Bool
 are_aside [] = true
 are_aside (m ∷ ms) = is_aside m && are_aside ms
 
-first-aside : (a b : Bool) → (a && b) ≡ true → (a ≡ true) × (b ≡ true)
-first-aside true true e = (refl, refl)
-first-aside true false e = absurd (cc)
-first-aside false b e = absurd (cc)
-
 pub aside-both : (xs ys : List Move) → are_aside xs ≡ true → are_aside ys ≡ true → are_aside (xs ++ ys) ≡ true
 aside-both [] ys one other = other
 aside-both (m ∷ xs) ys one other =
-    let parts = first-aside (is_aside m) (are_aside xs) one in
+    let parts = and_parts (is_aside m) (are_aside xs) one in
     let rest = aside-both xs ys parts.1 other in
     ap (λ (b : Bool). b && are_aside (xs ++ ys)) parts.0 ∙ rest
 
@@ -86,17 +82,17 @@ lighter-each script S u t row own (m ∷ ms) is doomed fits few s below none apa
   where
     first-apart : (u.0 ≡ t.0 → ⊥) ⊎ ((is_aside m && are_aside ms) ≡ true) → (u.0 ≡ t.0 → ⊥) ⊎ (is_aside m ≡ true)
     first-apart (inl apart) = inl apart
-    first-apart (inr aside) = inr (first-aside (is_aside m) (are_aside ms) aside).0
+    first-apart (inr aside) = inr (and_parts (is_aside m) (are_aside ms) aside).0
 
     rest-apart : (u.0 ≡ t.0 → ⊥) ⊎ ((is_aside m && are_aside ms) ≡ true) → (u.0 ≡ t.0 → ⊥) ⊎ (are_aside ms ≡ true)
     rest-apart (inl apart) = inl apart
-    rest-apart (inr aside) = inr (first-aside (is_aside m) (are_aside ms) aside).1
+    rest-apart (inr aside) = inr (and_parts (is_aside m) (are_aside ms) aside).1
 
 -- moves aside gain and make nothing
 pub aside-quiet : (t p : ObjNo) (ms : List Move) → are_aside ms ≡ true → (total (gain_bit p) ms ≡ 0) × (total (made_bit t) ms ≡ 0)
 aside-quiet t p [] aside = (refl, refl)
 aside-quiet t p (m ∷ ms) aside =
-    let parts = first-aside (is_aside m) (are_aside ms) aside in
+    let parts = and_parts (is_aside m) (are_aside ms) aside in
     let rest = aside-quiet t p ms parts.1 in
     let here = one m parts.0 in
     ((let a = here.0 in let b = rest.0 in omega arith), (let a = here.1 in let b = rest.1 in omega arith))

@@ -9,7 +9,7 @@ use Rattle.entry_log.specs.declared.effect.Holder.TheVariants.{InProcess, InThre
 use Rattle.state_rows.specs.MessageRows.{messages_at}
 use Rattle.state_rows.specs.ServerRows.{is_closing}
 use Rattle.state_rows.specs.declared.thread.Stage.{Stage}
-use Rattle.state_rows.specs.declared.thread.Stage.TheVariants.{Live, Doomed}
+use Rattle.state_rows.specs.declared.thread.Stage.TheVariants.{Doomed}
 use Rattle.state_rows.specs.declared.thread.ThreadRow.{ThreadRow}
 use Rattle.machine.specs.Fits.{IsAtStage, IsFree, IsOwn as IsOwnHolder, MayMakeWith}
 use Rattle.machine.specs.LogonMoves.{logons_on}
@@ -29,6 +29,7 @@ use Rattle.machine_safe.proofs.Weight.Lighter.{Lighter, RowKept, gets-same, ligh
 use Rattle.machine_safe.proofs.Weight.Parts.{logon_bit, table-taken}
 use Rattle.machine_safe.specs.SafeWeights.{in_table}
 use Rattle.machine_safe.specs.Weight.{handles_in, links_to, messages_to, servers_of}
+use Rattle.move_laws.proofs.MoveLaws.DeathMoves.{not-doomed}
 
 -- 1 for a move by which a handle comes into the table of this process
 abbrev pub gain_bit : ObjNo → Move → ℕ
@@ -57,10 +58,6 @@ is_aside (Servers (End o)) = true
 is_aside (Messages (Accept slots row)) = true
 is_aside _ = false
 
--- of two threads' rows one is live, and one is doomed
-not_both : (stage : Stage) → stage ≡ Live → stage ≡ Doomed → ⊥
-not_both stage live doomed = cc
-
 module _ (script : Script) (S : State) (u t : ObjNo) (row : ThreadRow) (rows : AreRows script S)
     (is : thread_of S t ≡ Some row) (doomed : row.stage ≡ Doomed) where
   pub live-apart : (v : ObjNo) → IsLiveThread S.references.threads v → v.0 ≡ t.0 → ⊥
@@ -68,7 +65,7 @@ module _ (script : Script) (S : State) (u t : ObjNo) (row : ThreadRow) (rows : A
       let here : thread_of S v ≡ Some row = ap (λ (n : ℕ). get_or S.references.threads n None) at ∙ is in
       let both : Some live.row ≡ Some row = sym live.is ∙ here in
       let own : live.row ≡ row = cc in
-      not_both row.stage (ap (λ (r : ThreadRow). r.stage) (sym own) ∙ live.live) doomed
+      not-doomed row.stage (ap (λ (r : ThreadRow). r.stage) (sym own) ∙ live.live) doomed
 
   pub stage-apart : (v : ObjNo) (stage : Stage) → IsAtStage S v stage → (stage ≡ Doomed → ⊥) → v.0 ≡ t.0 → ⊥
   stage-apart v stage at other e =

@@ -47,7 +47,7 @@ use Rattle.state_rows.specs.Locks.{owner_at}
 use Rattle.move_laws.proofs.MoveLaws.LockMoves.{passed_by}
 use Rattle.machine_safe.proofs.Deaths.LockMoves.{waiter-live}
 use Rattle.machine_safe.proofs.Weight.Closes.{IsClosed, lighter-close}
-use Rattle.machine_safe.proofs.Weight.Lighter.{Lighter, RowKept, gets-same, gets-swept, links_left-swept, lighter-parts, row-changed, row-same}
+use Rattle.machine_safe.proofs.Weight.Lighter.{Lighter, RowKept, gets-same, gets-swept, links_left-swept, lighter-parts, row-changed, row-same, row-left}
 use Rattle.machine_safe.proofs.Weight.Lists.{total-less}
 use Rattle.machine_safe.proofs.Weight.Moves.{gain_bit, is_aside, lighter-make, live-apart, made_bit, may-free, open-unowned, owned-same, post_bit, stage-apart, still, with-row}
 use Rattle.machine_safe.proofs.Weight.Parts.{closing-linked, links-joined, logon_bit, logons-moved, messages-accepted, messages-copied, messages-finished, messages-taken}
@@ -177,7 +177,7 @@ module _ (script : Script) (S : State) (u t : ObjNo) (row : ThreadRow) (rows : A
   lighter-death : (m : DeathMove) → FitsMove script u (Death m) S → (u.0 ≡ t.0 → ⊥) → Lighter S (moved u (Death m) S) t row 0 0 0
   lighter-death (Note v exit) fits apart =
       with-row script S u t row rows is doomed (Death (Note v exit)) v (death_row (Note v exit)) _ refl
-      (inr (record { stage = refl; process = refl; find = omega arith; used = omega arith })) refl refl refl refl refl
+      (inr (row-left refl)) refl refl refl refl refl
       refl refl
   lighter-death (Doom v exit) fits apart =
       with-row script S u t row rows is doomed (Death (Doom v exit)) v (death_row (Doom v exit)) _ refl
@@ -278,10 +278,10 @@ module _ (script : Script) (S : State) (u t : ObjNo) (row : ThreadRow) (rows : A
       row-of (Keep v number) v (with_kept number) (moved u (Keep v number) S) fits.1 apart refl refl refl refl refl
   lighter-move (Write v x value) fits own below none (inl apart) =
       row-any (Write v x value) v (with_register x value) (moved u (Write v x value) S)
-      (record { stage = refl; process = refl; find = omega arith; used = omega arith }) refl refl refl refl refl
+      (row-left refl) refl refl refl refl refl
   lighter-move (WriteMessage v y number) fits own below none (inl apart) =
       row-any (WriteMessage v y number) v (with_message y number) (moved u (WriteMessage v y number) S)
-      (record { stage = refl; process = refl; find = omega arith; used = omega arith }) refl refl refl refl refl
+      (row-left refl) refl refl refl refl refl
   lighter-move (PutDown v) fits own below none (inl apart) =
       lighter-owing (moved u (PutDown v) S) v (with_use None)
       (owed_use v (use_of S v)) fits.0 apart refl refl refl refl refl
@@ -289,13 +289,13 @@ module _ (script : Script) (S : State) (u t : ObjNo) (row : ThreadRow) (rows : A
       lighter-owing (moved u (Advance v) S) v advanced (owed_use v (use_of S v)) fits.0 apart refl refl refl refl refl
   lighter-move (Wait v what) fits own below none (inl apart) =
       row-any (Wait v what) v (with_waiting what) (moved u (Wait v what) S)
-      (record { stage = refl; process = refl; find = omega arith; used = omega arith }) refl refl refl refl refl
+      (row-left refl) refl refl refl refl refl
   lighter-move (Wake v) fits own below none apart =
       row-any (Wake v) v (with_waiting waiting.Nothing) (moved u (Wake v) S)
-      (record { stage = refl; process = refl; find = omega arith; used = omega arith }) refl refl refl refl refl
+      (row-left refl) refl refl refl refl refl
   lighter-move (SetPriority v priority) fits own below none (inl apart) =
       row-any (SetPriority v priority) v (with_priority priority) (moved u (SetPriority v priority) S)
-      (record { stage = refl; process = refl; find = omega arith; used = omega arith }) refl refl refl refl refl
+      (row-left refl) refl refl refl refl refl
   lighter-move (Nano m) fits own below none apart = still script S u t row rows is doomed (moved u (Nano m) S) refl refl refl refl refl refl refl refl
   lighter-move (Deferred m) fits own below none apart = still script S u t row rows is doomed (moved u (Deferred m) S) refl refl refl refl refl refl refl refl
   lighter-move (Requests m) fits own below none apart = still script S u t row rows is doomed (moved u (Requests m) S) refl refl refl refl refl refl refl refl

@@ -39,8 +39,7 @@ use Rattle.machine.specs.declared.moves.Move.TheVariants as move
 use Rattle.machine.specs.declared.request_move.RequestMove.TheVariants.{Signal}
 use Rattle.machine.specs.declared.server_move.ServerMove.TheVariants.{End, SetOpen}
 use Rattle.machine.specs.declared.state.State.{State}
-use Rattle.machine_safe.proofs.Serving.ActionMoves.{fits-front, perform-append}
-use Rattle.machine_safe.proofs.Serving.SendingSteps.{open_is}
+use Rattle.machine_safe.proofs.Serving.ActionMoves.{fits-front}
 use Rattle.move_laws.proofs.Lists.Cases.{if_cases}
 use Rattle.move_laws.proofs.Lists.Contents.{contains_filter}
 use Rattle.move_laws.proofs.Lists.Totals.{total-append}
@@ -48,11 +47,13 @@ use Rattle.move_laws.proofs.MoveLaws.Run.{each-sound, sound-move}
 use Rattle.move_laws.proofs.RowLaws.Rising.{found_one}
 use Rattle.machine_safe.proofs.Weight.Gives.{IsOfThread, behind, finish-lowers, free-lowers, handle-lowers, link-lowers, logon-lowers, sane, server-lowers, use-lowers}
 use Rattle.machine_safe.proofs.Weight.Lighter.{Lighter, lighter-at-most}
-use Rattle.machine_safe.proofs.Weight.Lists.{none-or}
 use Rattle.machine_safe.proofs.Weight.Lowers.{Lowered, are_aside, aside-both, aside-quiet, lighter-each, then-lowered}
 use Rattle.machine_safe.proofs.Weight.Moves.{gain_bit, made_bit, open-unowned, post_bit}
 use Rattle.machine_safe.proofs.Weight.Others.{lighter-move}
 use Rattle.machine_safe.specs.Weight.{mutexes_of, servers_of}
+use Rattle.machine_laws.proofs.Fitting.Stepping.{perform-append}
+use Rattle.move_laws.proofs.Lives.LivesMove.{zero_or}
+use Rattle.machine_safe.proofs.Serving.ProperLists.{open-accepts}
 
 -- moves that are aside of their own thread, and send no message
 pub record IsQuiet (own : ObjNo → ℕ) (ms : List Move) : Type 0 where
@@ -124,7 +125,7 @@ module _ (script : Script) (S : State) (t : ObjNo) (row : ThreadRow) (rows : Are
       by false at = absurd (cc)
 
       unowned : owns v ≡ 0
-      unowned = none-or (owns v) (λ some. open-unowned script S t t row rows is doomed v (open_is S s v (by _ e)) some)
+      unowned = zero_or (owns v) (λ some. open-unowned script S t t row rows is doomed v (open-accepts S s v (by _ e)) some)
 
   quiet-close : (o : ObjNo) (server : Option ServerRow) → IsQuiet owns (close_or o server (disconnect S t o (connected_to S o)))
   quiet-close o None = quiet-disconnect o (connected_to S o) refl

@@ -34,9 +34,9 @@ use Rattle.machine.specs.ServerMoves.{all_closing, owned_by, owned_lose, servers
 use Rattle.machine.specs.declared.logon_move.LogonMove.{LogonMove}
 use Rattle.machine.specs.declared.logon_move.LogonMove.TheVariants.{Add, Remove, Drop}
 use Rattle.move_laws.proofs.Lists.Sets.{set_either}
-use Rattle.move_laws.proofs.Lists.Totals.{get-with, total-with}
+use Rattle.move_laws.proofs.Lists.Totals.{get-with, total-with, total-filter}
 use Rattle.move_laws.proofs.References.Same.{if_is}
-use Rattle.machine_safe.proofs.Weight.Lists.{filter-behind, filter-both, filter-less, filter-mapped, filter-shorter, total-set_most}
+use Rattle.machine_safe.proofs.Weight.Lists.{filter-behind, filter-both, filter-mapped, filter-shorter, total-set_most}
 use Rattle.machine_safe.specs.Weight.{handle_bit, handles_in, use_bit}
 
 -- an item is the one that was set, or the one that stood there
@@ -162,7 +162,7 @@ pub servers-less : (f : ObjNo → ℕ) (h : Holder) (o : ObjNo) (owned : List (L
     → total f (owned_by (owned_lose h o owned) t) ≤ total f (owned_by owned t)
 servers-less f (Own u) o owned t = either (λ (l : List ObjNo). total f l ≤ total f (owned_by owned t)) owned u.0 _ t.0 []
     (λ at. subst (λ (n : ℕ). total f (without o (get_or owned u.0 [])) ≤ total f (get_or owned n [])) (sym at)
-    (filter-less f (λ (other : ObjNo). not (other.0 == o.0)) (get_or owned u.0 []))) (omega arith)
+    (total-filter f (λ (other : ObjNo). not (other.0 == o.0)) (get_or owned u.0 []))) (omega arith)
 servers-less f _ o owned t = omega arith
 
 -- 1 for a logon on a thread that is made; and how many logons there are then

@@ -16,14 +16,13 @@ use Rattle.machine.specs.declared.moves.Move.TheVariants as move
 use Rattle.machine.specs.declared.state.State.{State}
 use Rattle.move_laws.proofs.References.Same.{same_is}
 use Rattle.machine_safe.proofs.Serving.Proper.{AreProper, Going, IsOfProcess, IsProper, onward, stepping}
-use Rattle.machine_safe.proofs.Weight.Lists.{none-or}
 use Rattle.machine_safe.proofs.Weight.Moves.{gain_bit}
 use Rattle.machine_safe.specs.SafeWeights.{handles_added, handles_by, is_of, is_row_of}
+use Rattle.move_laws.proofs.Lives.LivesMove.{zero_or}
 
 -- handles that come are told
 gain-told : (p : ObjNo) (m : Move) (S : State) → gain_bit p m ≤ handles_added p (told m S)
 gain-told p (move.Make kind name h) S = omega arith
-gain-told p (move.Gain h o) S = omega arith
 gain-told p _ S = omega arith
 
 added-append : (p : ObjNo) (es fs : List Effect) → handles_added p (es ++ fs) ≡ handles_added p es + handles_added p fs
@@ -64,4 +63,4 @@ gains-by script S u p ms proper = by (is_of S p (Thread u)) refl
 
     by : (b : Bool) → is_of S p (Thread u) ≡ b → total (gain_bit p) ms ≤ (if b then handles_added p (tell u ms S) else 0)
     by true is = gains-told p u ms S
-    by false is = let none = none-or (total (gain_bit p) ms) (λ some. stranger is (gives-of script (stepping S u) p ms proper some)) in omega arith
+    by false is = let none = zero_or (total (gain_bit p) ms) (λ some. stranger is (gives-of script (stepping S u) p ms proper some)) in omega arith

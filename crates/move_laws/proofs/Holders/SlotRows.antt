@@ -2,7 +2,7 @@
 use Rattle.std.proofs.Common.{◌≡◌, inl, inr, ℕ, ◌+◌, ◌<◌, List, [], length, get_or, arith, refl, sym, ap, ◌∙◌, Option, Bool, true, false}
 use Rattle.std.specs.Prelude.{slice_set, is_some, not, ◌==◌, ◌&&◌, if◌then◌else◌, None}
 use Rattle.std.proofs.lemmas.List.{get_or-set_same, get_or-set_other}
-use Rattle.std.proofs.lemmas.Bool.{cases_eq, eq-eqb}
+use Rattle.std.proofs.lemmas.Bool.{cases_eq, eq-eqb, and_right}
 use Rattle.sym_base.specs.declared.number.ObjNo.{ObjNo}
 use Rattle.entry_log.specs.declared.effect.Holder.{Holder}
 use Rattle.entry_log.specs.declared.effect.Holder.TheVariants.{InProcess, InThread}
@@ -53,10 +53,6 @@ own_slot_true : (c : Bool) (x : ObjNo) (slot : HandleSlot) → c ≡ true → ow
 own_slot_true true x slot e = refl
 own_slot_true false x slot e = cc
 
-and_false : (a b : Bool) → b ≡ false → (a && b) ≡ false
-and_false true b e = e
-and_false false b e = refl
-
 -- a slot of the holder's own table
 own_slot_set : (tables : List (List HandleSlot)) (owner : ObjNo) (i : ℕ) (f : HandleSlot → HandleSlot) (p : ObjNo)
     (j : ℕ) (x : ObjNo) (c : Bool)
@@ -78,7 +74,7 @@ own_slot_set tables owner i f p j x c h k own =
     elim (cases_eq owner.0 p.0) as (λ _. Kept) [
       | inr apart ↦ elsewhere (ap (λ (s : Bool). s && i == j) (eqb_apart owner.0 p.0 apart)) (slot_other tables owner i f p.0 j apart)
       | inl at ↦ elim (cases_eq i j) as (λ _. Kept) [
-        | inr apart ↦ elsewhere (and_false (owner.0 == p.0) (i == j) (eqb_apart i j apart)) (slot_beside tables owner i f p.0 j h at apart)
+        | inr apart ↦ elsewhere (and_right (owner.0 == p.0) (i == j) (eqb_apart i j apart)) (slot_beside tables owner i f p.0 j h at apart)
         | inl ij ↦
             let yes : test ≡ true = rw (eq-eqb owner.0 p.0 at, eq-eqb i j ij) refl in
             let a = if_is test (slot_names x old) yes in

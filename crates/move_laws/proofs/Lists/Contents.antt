@@ -64,3 +64,20 @@ contains_total f [] x h = absurd (none_contained x h)
 contains_total f (y ∷ ys) x h =
     contains_cases (λ z. f z ≤ f y + total f ys) y ys x h (omega arith)
     (λ z there. let a = contains_total f ys z there in omega arith)
+
+-- what stands in a list stands in one that is mapped
+pub map_contains : {A B : Type 0} (g : A → B) (xs : List A) (x : A) → Contains xs x → Contains (map g xs) (g x)
+map_contains g [] x there = absurd (none_contained x there)
+map_contains {A} g (y ∷ ys) x there =
+    contains_cases (λ z. Contains (map g (y ∷ ys)) (g z)) y ys x there (contains_first (map g ys) (g y))
+    (λ z behind. contains_behind (g y) (map g ys) (g z) (map_contains g ys z behind))
+
+-- what passes a filter stands in what it leaves
+pub filter_contains : {A : Type 0} (p : A → Bool) (xs : List A) (y : A) → Contains xs y → p y ≡ true → Contains (filter p xs) y
+filter_contains p [] y there passes = there
+filter_contains {A} p (x ∷ xs) y there passes = by (p x) refl (λ z. filter_contains p xs z)
+  where
+    by : (b : Bool) → p x ≡ b → ((z : A) → Contains xs z → p z ≡ true → Contains (filter p xs) z) → Contains (if b then x ∷ filter p xs else filter p xs) y
+    by true is rest = contains_cases (λ z. p z ≡ true → Contains (x ∷ filter p xs) z) x xs y there
+        (λ _. contains_first (filter p xs) x) (λ z behind ok. contains_behind x (filter p xs) z (rest z behind ok)) passes
+    by false is rest = contains_cases (λ z. p z ≡ true → Contains (filter p xs) z) x xs y there (λ ok. absurd (cc)) (λ z behind ok. rest z behind ok) passes

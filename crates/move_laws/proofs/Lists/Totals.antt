@@ -1,7 +1,9 @@
 -- Sums over rows, and what changing or adding a row does to them.
 use Rattle.std.proofs.Common.{◌≡◌, ℕ, suc, zero, ◌+◌, ◌*◌, ◌<◌, ◌≤◌, List, [], ◌∷◌, ◌++◌, length, get_or, arith}
-use Rattle.std.proofs.Common.{Option, Some, None, sym, refl}
-use Rattle.std.specs.Prelude.{drop, slice_set}
+use Rattle.std.proofs.Common.{Option, Some, None, Bool, true, false, inl, inr, ap, map, set, sym, refl, ◌∙◌}
+use Rattle.std.proofs.lemmas.Bool.{cases_lt}
+use Rattle.std.proofs.lemmas.List.{set_past}
+use Rattle.std.specs.Prelude.{drop, filter, if◌then◌else◌, slice_set}
 use Rattle.machine.specs.References.{total}
 
 pub total-set : {A : Type 0} (f : A → ℕ) (xs : List A) (i : ℕ) (y d : A) → i < length xs → total f (slice_set xs i y) + f (get_or xs i d) ≡ total f xs + f y
@@ -60,3 +62,49 @@ pub total_within : {A : Type 0} (f : A → ℕ) (xs : List (List A)) (i : ℕ) �
 total_within f [] i = omega arith
 total_within f (x ∷ xs) zero = omega arith
 total_within f (x ∷ xs) (suc i) = let a = total_within f xs i in omega arith
+
+-- those of a list that pass a test are no more
+pub total-filter : {A : Type 0} (f : A → ℕ) (p : A → Bool) (xs : List A) → total f (filter p xs) ≤ total f xs
+total-filter f p [] = omega arith
+total-filter f p (x ∷ xs) = by (p x) (total-filter f p xs)
+  where
+    by : (b : Bool) → total f (filter p xs) ≤ total f xs → total f (if b then x ∷ filter p xs else filter p xs) ≤ f x + total f xs
+    by true le = omega arith
+    by false le = omega arith
+
+pub filtered_each : {A : Type 0} (f : A → ℕ) (p : A → Bool) (xs : List (List A)) → total (total f) (map (filter p) xs) ≤ total (total f) xs
+filtered_each f p [] = omega arith
+filtered_each f p (x ∷ xs) = let a = total-filter f p x in let b = filtered_each f p xs in omega arith
+
+-- another list at a place
+pub total-at : {A : Type 0} (f : A → ℕ) (xs : List (List A)) (i : ℕ) (ys : List A)
+    → total f ys ≤ total f (get_or xs i []) → total (total f) (set xs i ys) ≤ total (total f) xs
+total-at f xs i ys le = elim (cases_lt i (length xs)) as (λ _. total (total f) (set xs i ys) ≤ total (total f) xs) [
+  | inl inside ↦ let a = total-set (total f) xs i ys [] inside in omega arith
+  | inr past ↦ let same = set_past xs i ys past in let a = ap (total (total f)) same in omega arith
+]
+
+-- numbers that are all 0
+pub total-none : {A : Type 0} (f : A → ℕ) (xs : List A) (d : A) → ((j : ℕ) → f (get_or xs j d) ≡ 0) → total f xs ≡ 0
+total-none f [] d none = refl
+total-none f (x ∷ xs) d none = let first : f x ≡ 0 = none zero in let rest = total-none f xs d (λ j. none (suc j)) in omega arith
+
+-- one number of a list that alone isn't 0
+pub total-only : {A : Type 0} (f : A → ℕ) (xs : List A) (i : ℕ) (d : A) → f d ≡ 0
+    → ((j : ℕ) → (j ≡ i → ⊥) → f (get_or xs j d) ≡ 0) → total f xs ≡ f (get_or xs i d)
+total-only f [] i d none others = sym none
+total-only f (x ∷ xs) zero d none others = let rest = total-none f xs d (λ j. others (suc j) (λ e. absurd (omega arith))) in omega arith
+total-only f (x ∷ xs) (suc i) d none others =
+    let first : f x ≡ 0 = others zero (λ e. absurd (omega arith)) in
+    let rest = total-only f xs i d none (λ j apart. others (suc j) (λ e. apart (omega arith))) in omega arith
+
+-- two lists with the same numbers, and with smaller ones
+pub total-same : {A : Type 0} (f : A → ℕ) (xs ys : List A) (d : A) → f d ≡ 0 → ((j : ℕ) → f (get_or ys j d) ≡ f (get_or xs j d)) → total f ys ≡ total f xs
+total-same f [] ys d none same = total-none f ys d (λ j. same j ∙ none)
+total-same f (x ∷ xs) [] d none same = sym (total-none f (x ∷ xs) d (λ j. sym (same j) ∙ none))
+total-same f (x ∷ xs) (y ∷ ys) d none same = let first : f y ≡ f x = same 0 in let rest = total-same f xs ys d none (λ j. same (suc j)) in omega arith
+
+pub total-below : {A : Type 0} (f : A → ℕ) (xs ys : List A) (d : A) → f d ≡ 0 → ((j : ℕ) → f (get_or ys j d) ≤ f (get_or xs j d)) → total f ys ≤ total f xs
+total-below f xs [] d none le = omega arith
+total-below f [] (y ∷ ys) d none le = let first : f y ≤ f d = le 0 in let rest : total f ys ≤ 0 = total-below f [] ys d none (λ j. le (suc j)) in omega arith
+total-below f (x ∷ xs) (y ∷ ys) d none le = let first : f y ≤ f x = le 0 in let rest = total-below f xs ys d none (λ j. le (suc j)) in omega arith

@@ -29,6 +29,17 @@ pub record IsQuiet (effects : List Effect) : Type 0 where
   pub deaths : (o : ObjNo) → deaths effects o ≡ 0
   pub removals : (o : ObjNo) → removals effects o ≡ 0
 
+-- what effects tell of that
+abbrev pub ends_of : List Effect → ObjNo → ℕ × ℕ × ℕ
+ends_of effects o = (minuses effects o, deaths effects o, removals effects o)
+
+pub quiet_of : {effects : List Effect} → ((o : ObjNo) → ends_of effects o ≡ (0, 0, 0)) → IsQuiet effects
+quiet_of none = record {
+  minuses = λ o. ap (λ (n : ℕ × ℕ × ℕ). n.0) (none o);
+  deaths = λ o. ap (λ (n : ℕ × ℕ × ℕ). n.1) (none o);
+  removals = λ o. ap (λ (n : ℕ × ℕ × ℕ). n.2) (none o);
+}
+
 -- the objects and the owed sweeps stay, and whoever isn't out any more on a living object has opened it
 pub lives-quiet : (S T : State) (effects : List Effect) → SameObjects S T → IsQuiet effects
     → ((o : ObjNo) → count_of T o + minuses effects o ≡ count_of S o + pluses effects o)
@@ -76,7 +87,7 @@ pub lives-none : (S T : State) → SameObjects S T
     → ((o : ObjNo) → count_of T o ≡ count_of S o) → ((o : ObjNo) → sweeps_of T o ≡ sweeps_of S o)
     → SeeksSame S.references.threads T.references.threads → LivesMove S T []
 lives-none S T same counts owed seek =
-    lives-quiet S T [] same (record { minuses = λ o. refl; deaths = λ o. refl; removals = λ o. refl })
+    lives-quiet S T [] same (quiet_of (λ o. refl))
     (λ o. let a = counts o in omega arith) owed (λ o alive. let a = outs-quiet S T same seek o in omega arith) (outs-found S T seek)
     (λ o h. absurd (omega arith)) (λ o h. absurd (omega arith))
 
@@ -87,7 +98,7 @@ pub lives-opened : (S T : State) (holder : Holder) (x : ObjNo) → SameObjects S
     → LivesMove S T (Plus holder x ∷ [])
 lives-opened S T holder x objects counts owed outs sought alive =
     lives-quiet S T (Plus holder x ∷ []) objects
-    (record { minuses = λ o. refl; deaths = λ o. refl; removals = λ o. refl })
+    (quiet_of (λ o. refl))
     (λ o. let a = counts o in omega arith) owed (λ o living. let a = outs o in omega arith) sought
     (λ o h. subst (λ (y : ObjNo). IsAlive (object_of S y)) (same_is x o (omega arith)) alive)
     (λ o h. absurd (omega arith))

@@ -18,7 +18,7 @@ use Rattle.machine.specs.RequestMoves.{request_moved, request_told}
 use Rattle.machine.specs.Serving.{times_sent}
 use Rattle.machine.specs.WellFormed.{AreLogons, AreRows, IsUntold, logon_names}
 use Rattle.move_laws.proofs.RowLaws.Calls.{calls-moved}
-use Rattle.move_laws.proofs.RowLaws.Logons.{Spares, filtered_each, logon-added, logons-moved, logons-requests, still_awaited, the_logon, total-at, total-filter}
+use Rattle.move_laws.proofs.RowLaws.Logons.{Spares, logon-added, logons-moved, logons-requests, still_awaited, the_logon}
 use Rattle.move_laws.proofs.Lives.LivesMove.{zero_or}
 use Rattle.move_laws.proofs.References.Same.{same_object}
 use Rattle.move_laws.proofs.RowLaws.MessagesKept.{messages-awaited}
@@ -26,6 +26,8 @@ use Rattle.move_laws.proofs.RowLaws.Requests.{requests-moved}
 use Rattle.move_laws.proofs.MoveLaws.RowMoves.{IsSilent, silent, sound-rest}
 use Rattle.move_laws.proofs.MoveLaws.Sound.{Sound}
 use Rattle.move_laws.proofs.RowLaws.Awaited.{awaited-requests, awaited-logons}
+use Rattle.move_laws.proofs.MoveLaws.Silent.{silent_of}
+use Rattle.move_laws.proofs.Lists.Totals.{total-filter, filtered_each, total-at}
 
 pub sound-deferred : (script : Script) (S : State) (t : ObjNo) (m : DeferredMove) → FitsMove script t (Deferred m) S
     → AreRows script S → Sound script S (moved t (Deferred m) S) (told (Deferred m) S)
@@ -42,27 +44,9 @@ sound-deferred script S t m fits rows =
 
 -- a signal tells of no reference and no death
 pub request_silent : (S : State) (m : RequestMove) → IsSilent S (request_told m)
-request_silent S (Complete d t s code) = record {
-  quiet = record { minuses = λ p. refl; deaths = λ p. refl; removals = λ p. refl };
-  pluses = λ p. refl;
-  found = λ p h. absurd (omega arith);
-  fits = (tt, tt);
-  after = λ g x. refl;
-}
-request_silent S (Signal t s code) = record {
-  quiet = record { minuses = λ p. refl; deaths = λ p. refl; removals = λ p. refl };
-  pluses = λ p. refl;
-  found = λ p h. absurd (omega arith);
-  fits = (tt, tt);
-  after = λ g x. refl;
-}
-request_silent S (Reply t code) = record {
-  quiet = record { minuses = λ p. refl; deaths = λ p. refl; removals = λ p. refl };
-  pluses = λ p. refl;
-  found = λ p h. absurd (omega arith);
-  fits = (tt, tt);
-  after = λ g x. refl;
-}
+request_silent S (Complete d t s code) = silent_of S (λ o. refl) (λ o. refl) (tt, tt) (λ g x. refl)
+request_silent S (Signal t s code) = silent_of S (λ o. refl) (λ o. refl) (tt, tt) (λ g x. refl)
+request_silent S (Reply t code) = silent_of S (λ o. refl) (λ o. refl) (tt, tt) (λ g x. refl)
 request_silent S _ = silent S
 
 -- the status of a message is no other that is completed

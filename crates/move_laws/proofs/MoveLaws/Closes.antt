@@ -345,9 +345,8 @@ sound-closed true script S t h o handles threads owed servers owned e inside_t l
 
 -- a close owes little
 pub close_weight : (last : Bool) (o : ObjNo) (link : Option ObjNo) → total weight (owed_by_close last o link) ≤ 3
-close_weight false o link = omega arith
 close_weight true o None = omega arith
-close_weight true o (Some p) = omega arith
+close_weight _ o _ = omega arith
 
 -- and least where the object has no link
 pub close_weight_unlinked : (last : Bool) (o : ObjNo) (link : Option ObjNo) → link ≡ None → total weight (owed_by_close last o link) ≤ 1

@@ -37,38 +37,25 @@ use Rattle.machine.specs.References.{count_of, kernel_holds, mutex_names, owed_n
 use Rattle.move_laws.proofs.Holders.ThreadRows.{kernel-changed, row_holds, row_kept, rows-changed}
 use Rattle.move_laws.proofs.References.Counts.{count-with_row, total-owing}
 use Rattle.move_laws.proofs.References.Same.{if_zero}
-use Rattle.move_laws.proofs.Lives.Kinds.{lives-quiet}
+use Rattle.move_laws.proofs.Lives.Kinds.{lives-quiet, quiet_of}
 use Rattle.move_laws.proofs.Lives.Outs.{KeepsSeeks, outs-same, seeks-with_row}
 use Rattle.move_laws.proofs.Lives.Places.{outs-found}
 use Rattle.move_laws.proofs.RowLaws.MessagesKept.{KeepsMessages}
 use Rattle.move_laws.proofs.RowLaws.ServersKept.{servers-with_row}
 use Rattle.move_laws.proofs.Lists.Totals.{inside}
 use Rattle.move_laws.proofs.RowLaws.Awaited.{awaited-kept, awaited-doom, awaited-later}
+use Rattle.move_laws.proofs.MoveLaws.Silent.{silent_of}
 
 -- a doom tells of no reference, and of no object's death
 pub death_silent : (S : State) (m : DeathMove) → IsSilent S (death_told m)
-death_silent S (Bury t) = record {
-  quiet = record { minuses = λ p. refl; deaths = λ p. refl; removals = λ p. refl };
-  pluses = λ p. refl;
-  found = λ p h. absurd (omega arith);
-  fits = (tt, tt);
-  after = λ g x. refl;
-}
-death_silent S (Doom t exit) = record {
-  quiet = record { minuses = λ p. refl; deaths = λ p. refl; removals = λ p. refl };
-  pluses = λ p. refl;
-  found = λ p h. absurd (omega arith);
-  fits = (tt, tt);
-  after = λ g x. refl;
-}
+death_silent S (Bury t) = silent_of S (λ o. refl) (λ o. refl) (tt, tt) (λ g x. refl)
+death_silent S (Doom t exit) = silent_of S (λ o. refl) (λ o. refl) (tt, tt) (λ g x. refl)
 death_silent S _ = silent S
 
 -- references, a thread's row and its place stay
 keeps-references : (m : DeathMove) → KeepsReferences (death_row m)
 keeps-references (Note t exit) = record { link = λ row. refl; uses = λ row. refl }
-keeps-references (Doom t exit) = record { link = λ row. refl; uses = λ row. refl }
-keeps-references (Clean t) = record { link = λ row. refl; uses = λ row. refl }
-keeps-references (Bury t) = record { link = λ row. refl; uses = λ row. refl }
+keeps-references _ = record { link = λ row. refl; uses = λ row. refl }
 
 keeps-thread : (script : Script) (count : ℕ) (m : DeathMove) (row : ThreadRow) → IsThread script count row → KeepsThread script count row (death_row m row)
 keeps-thread script count (Note t exit) row h = record {
@@ -85,35 +72,7 @@ keeps-thread script count (Note t exit) row h = record {
   process = refl;
   role = refl;
 }
-keeps-thread script count (Doom t exit) row h = record {
-  thread = record {
-    process = h.process;
-    link = h.link;
-    priority = h.priority;
-    next_instruction = h.next_instruction;
-    unused = h.unused;
-    registers = h.registers;
-    declared = h.declared;
-    returns = h.returns;
-  };
-  process = refl;
-  role = refl;
-}
-keeps-thread script count (Bury t) row h = record {
-  thread = record {
-    process = h.process;
-    link = h.link;
-    priority = h.priority;
-    next_instruction = h.next_instruction;
-    unused = h.unused;
-    registers = h.registers;
-    declared = h.declared;
-    returns = h.returns;
-  };
-  process = refl;
-  role = refl;
-}
-keeps-thread script count (Clean t) row h = record {
+keeps-thread script count _ row h = record {
   thread = record {
     process = h.process;
     link = h.link;
@@ -131,9 +90,7 @@ keeps-thread script count (Clean t) row h = record {
 -- it begins no return
 keeps-going : (m : DeathMove) (row : ThreadRow) → is_returning row.part ≡ false → is_returning (death_row m row).part ≡ false
 keeps-going (Note t exit) row h = h
-keeps-going (Doom t exit) row h = h
-keeps-going (Clean t) row h = h
-keeps-going (Bury t) row h = h
+keeps-going _ row h = h
 
 -- a thread that is there has a number of them
 some-inside : (threads : List (Option ThreadRow)) (k : ℕ) (row : Option ThreadRow) → get_or threads k None ≡ row → is_some row ≡ true → k < length threads
@@ -144,7 +101,7 @@ some-inside threads k (Some row) is some = inside threads k row is
 not-live : (stage : Stage) → stage ≡ Live → stage ≡ Cleaned → ⊥
 not-live stage live cleaned = cc
 
-not-doomed : (stage : Stage) → stage ≡ Live → stage ≡ Doomed → ⊥
+pub not-doomed : (stage : Stage) → stage ≡ Live → stage ≡ Doomed → ⊥
 not-doomed stage live doomed = cc
 
 -- who isn't live holds no fast mutex: a change of its row leaves the holders
@@ -275,9 +232,7 @@ served-death script S t m fits rows = record {
 -- and leaves whether its thread is out
 keeps-seeks : (m : DeathMove) (row : ThreadRow) → KeepsSeeks (death_row m) row
 keeps-seeks (Note u exit) row o place = refl
-keeps-seeks (Doom u exit) row o place = refl
-keeps-seeks (Clean u) row o place = refl
-keeps-seeks (Bury u) row o place = refl
+keeps-seeks _ row o place = refl
 
 sound-dying : (script : Script) (S : State) (t : ObjNo) (m : DeathMove) → FitsDeath t m S
     → ((row : ThreadRow) → thread_of S (death_thread m) ≡ Some row → stage_holds (death_row m row).stage
@@ -369,7 +324,7 @@ sound-bury script S t u fits few rows =
       serving = served-death script S t (Bury u) fits rows;
     })
     (lives-quiet S T (effect.Bury u ∷ []) (refl, refl, refl)
-    (record { minuses = λ p. refl; deaths = λ p. refl; removals = λ p. refl })
+    (quiet_of (λ o. refl))
     (λ o. let a = counts o in omega arith) sweeps
     (λ o alive. let a = outs-same S other (seeks-with_row S.references.threads u f (λ row is p place. refl)) o in
     omega arith) (outs-found S T (seeks-with_row S.references.threads u f (λ row is p place. refl)))

@@ -68,7 +68,7 @@ pub record HasGained (script : Script) (S : State) (h : Holder) (o : ObjNo) (han
   pub serving : AreServingRows S.references.objects threads S.synchronization.locks
       (IsUntold S.synchronization.requests S.synchronization.logons) S.serving
 
-empty_slot : (c : Bool) (x : ObjNo) (slot : HandleSlot) → slot.object ≡ None → own_slot c x slot ≡ 0
+pub empty_slot : (c : Bool) (x : ObjNo) (slot : HandleSlot) → slot.object ≡ None → own_slot c x slot ≡ 0
 empty_slot true x slot e = refl
 empty_slot false x slot e = ap (option_names x) e
 
@@ -137,7 +137,7 @@ record MayUse (S : State) (u o : ObjNo) (go : Option Part → Option Part) : Typ
   pub goes : (p : Option Part) → is_returning p ≡ false → is_returning (go p) ≡ false
 
 -- a later step isn't a return
-later_goes : (p : Option Part) → is_before_use p ≡ false → is_returning p ≡ false
+pub later_goes : (p : Option Part) → is_before_use p ≡ false → is_returning p ≡ false
 later_goes None later = refl
 later_goes (Some Return) later = absurd (cc)
 later_goes (Some _) later = refl

@@ -52,6 +52,7 @@ use Rattle.move_laws.proofs.RowLaws.LockChanges.{LockParts, MayStand}
 use Rattle.move_laws.proofs.RowLaws.LockMoves.{given_none, held_once, locks-again, locks-freed, locks-given, locks-leave, locks-level, locks-not_owner, locks-signal, locks-start, locks-taken, locks-wait, locks-waits, none_held}
 use Rattle.move_laws.proofs.RowLaws.Locks.{thread_inside}
 use Rattle.move_laws.proofs.RowLaws.ServersKept.{servers-locks, unlocked-set, unowned-locked, unowned-other}
+use Rattle.move_laws.proofs.MoveLaws.Silent.{silent_of}
 
 -- the parts of a state that such a move changes
 abbrev parts : State → LockParts
@@ -59,31 +60,13 @@ parts S = record { rows = S.synchronization.locks; mutexes = S.synchronization.m
 
 -- that a thread takes or gives a mutex tells of no reference and no death
 silent-take : (S : State) (t o : ObjNo) → IsSilent S (Take t (Object o) ∷ [])
-silent-take S t o = record {
-  quiet = record { minuses = λ p. refl; deaths = λ p. refl; removals = λ p. refl };
-  pluses = λ p. refl;
-  found = λ p h. absurd (omega arith);
-  fits = (tt, tt);
-  after = λ g x. refl;
-}
+silent-take S t o = silent_of S (λ o. refl) (λ o. refl) (tt, tt) (λ g x. refl)
 
 silent-give : (S : State) (t o : ObjNo) → IsSilent S (Give t (Object o) ∷ [])
-silent-give S t o = record {
-  quiet = record { minuses = λ p. refl; deaths = λ p. refl; removals = λ p. refl };
-  pluses = λ p. refl;
-  found = λ p h. absurd (omega arith);
-  fits = (tt, tt);
-  after = λ g x. refl;
-}
+silent-give S t o = silent_of S (λ o. refl) (λ o. refl) (tt, tt) (λ g x. refl)
 
 silent-pass : (S : State) (t w o : ObjNo) → IsSilent S (Give t (Object o) ∷ Take w (Object o) ∷ [])
-silent-pass S t w o = record {
-  quiet = record { minuses = λ p. refl; deaths = λ p. refl; removals = λ p. refl };
-  pluses = λ p. refl;
-  found = λ p h. absurd (omega arith);
-  fits = (tt, (tt, tt));
-  after = λ g x. refl;
-}
+silent-pass S t w o = silent_of S (λ o. refl) (λ o. refl) (tt, (tt, tt)) (λ g x. refl)
 
 -- it is told before a change
 sound-told : (script : Script) (S T : State) (es fs : List Effect) → IsSilent S es → ((p : ObjNo) → removals fs p ≡ 0)
@@ -179,7 +162,7 @@ freed_by (Some w) t best e = by (w.thread.0 == t.0) refl e
     by false at e = absurd (cc)
 
 -- and to the best waiter, where it is passed
-passed_best : (best : Option ObjNo) (w : ObjNo) → Passed w ≡ passed best → best ≡ Some w
+pub passed_best : (best : Option ObjNo) (w : ObjNo) → Passed w ≡ passed best → best ≡ Some w
 passed_best None w e = absurd (cc)
 passed_best (Some u) w e = cc
 
@@ -436,7 +419,5 @@ lock_weight script S t _ fits = omega arith
 pub lock_removes : (m : LockMove) (p : ObjNo) → removals (lock_told m) p ≡ 0
 lock_removes (Lock o t Taken) p = refl
 lock_removes (Unlock o t Freed) p = refl
-lock_removes (Unlock o t (Passed w)) p = refl
 lock_removes (Free o t None) p = refl
-lock_removes (Free o t (Some w)) p = refl
 lock_removes _ p = refl

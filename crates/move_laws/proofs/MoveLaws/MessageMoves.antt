@@ -35,7 +35,7 @@ use Rattle.move_laws.proofs.Holders.Serving.{holds-finished, holds-message, hold
 use Rattle.move_laws.proofs.Lists.Contents.{found_there, total_some}
 use Rattle.move_laws.proofs.Lists.Totals.{total-append}
 use Rattle.move_laws.proofs.Lives.Places.{outs-found}
-use Rattle.move_laws.proofs.Lives.Kinds.{lives-none, lives-quiet}
+use Rattle.move_laws.proofs.Lives.Kinds.{lives-none, lives-quiet, quiet_of}
 use Rattle.move_laws.proofs.Lives.LivesMove.{zero_or}
 use Rattle.move_laws.proofs.MoveLaws.Groups.{synchronization-left, synchronization-same, synchronization-then}
 use Rattle.move_laws.proofs.MoveLaws.Sound.{Sound, sound-none, sound-of}
@@ -121,7 +121,7 @@ sound-accept script S slots row may rows =
       serving = record { servers = rows.serving.servers; messages = messages-accepted S slots row may rows.serving.messages };
     })
     (lives-quiet S T (message_told (Accept slots row) S.serving.messages) (refl, refl, refl)
-    (record { minuses = λ o. refl; deaths = λ o. refl; removals = λ o. refl })
+    (quiet_of (λ o. refl))
     (λ o. let a = total-append (message_names o) S.serving.messages.outstanding (new ∷ []) in omega arith) (λ o. refl) (λ o alive. omega arith)
     (outs-found S T (λ o place. refl))
     (λ o some. elim (cases_lt 0 (same row.session o)) as (λ _. IsAlive (object_of S o)) [
@@ -197,7 +197,7 @@ sound-finished script S t m code message found may few rows =
             S.serving.servers S.serving.messages m rows.serving.messages;
       };
     })
-    (lives-quiet S T (effect.Finish m code ∷ []) (refl, refl, refl) (record { minuses = λ o. refl; deaths = λ o. refl; removals = λ o. refl })
+    (lives-quiet S T (effect.Finish m code ∷ []) (refl, refl, refl) (quiet_of (λ o. refl))
     (λ o. let a = one_goes (message_names o) m S.serving.messages.outstanding message rows.serving.messages.rising
     found in let b = total-owing (owed_names o) S.references.owed t more here in omega arith)
     (λ o. let b = total-owing (owed_sweeps o) S.references.owed t more here in omega arith)
@@ -245,8 +245,7 @@ sound-messages script S t (Finish m code) fits few rows = sound-finish script S 
 -- it sweeps nothing
 pub message_removes : (m : MessageMove) (S : State) (p : ObjNo) → removals (message_told m S.serving.messages) p ≡ 0
 message_removes (Accept slots row) S p = refl
-message_removes (Finish m code) S p = refl
-message_removes (Take o) S p = refl
+message_removes _ S p = refl
 
 -- what it adds to the weight of what its thread owes
 closes_weight : (found : Option Message) → total weight (closes_of found) ≤ 8

@@ -17,6 +17,7 @@ use Rattle.machine.specs.WellFormed.{AreRows, AreSynchronized}
 use Rattle.move_laws.proofs.RowLaws.Synchronized.{synchronized-counts, synchronized-take, synchronized-give, synchronized-want}
 use Rattle.move_laws.proofs.MoveLaws.RowMoves.{IsSilent, silent, sound-rest}
 use Rattle.move_laws.proofs.MoveLaws.Sound.{Sound}
+use Rattle.move_laws.proofs.MoveLaws.Silent.{silent_of}
 
 in_sections : (script : Script) (S : State) (t : ObjNo) (n : ℕ)
     → AreSynchronized script S.references.threads S.synchronization.nano
@@ -69,20 +70,8 @@ synchronized-nano script S (Lower t) fits h = signalled script S t _ h
 
 -- a take and a give of a fast mutex tell of no reference and no death
 pub nano_silent : (S : State) (m : NanoMove) → IsSilent S (nano_told m)
-nano_silent S (Take t f) = record {
-  quiet = record { minuses = λ p. refl; deaths = λ p. refl; removals = λ p. refl };
-  pluses = λ p. refl;
-  found = λ p h. absurd (omega arith);
-  fits = (tt, tt);
-  after = λ g x. refl;
-}
-nano_silent S (Give t f) = record {
-  quiet = record { minuses = λ p. refl; deaths = λ p. refl; removals = λ p. refl };
-  pluses = λ p. refl;
-  found = λ p h. absurd (omega arith);
-  fits = (tt, tt);
-  after = λ g x. refl;
-}
+nano_silent S (Take t f) = silent_of S (λ o. refl) (λ o. refl) (tt, tt) (λ g x. refl)
+nano_silent S (Give t f) = silent_of S (λ o. refl) (λ o. refl) (tt, tt) (λ g x. refl)
 nano_silent S _ = silent S
 
 pub sound-nano : (script : Script) (S : State) (t : ObjNo) (m : NanoMove) → FitsMove script t (Nano m) S

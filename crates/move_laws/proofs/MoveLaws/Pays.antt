@@ -367,8 +367,6 @@ module _ (script : Script) (S : State) (t o : ObjNo) (rest : List Owed) (threads
       → servers_hold S.serving.owned servers.sessions S.serving.messages.outstanding g x
       ≡ servers_hold S.serving.owned S.serving.servers.sessions S.serving.messages.outstanding g x
   holds (Link s) x = number-cleared (session_names x) S.serving.servers.sessions o.0 s.0 refl (names_none x)
-  holds (Own u) x = refl
-  holds (OfMessage m) x = refl
   holds _ x = refl
 
   sound-swept : Sound script S swept (Swept o ∷ [])

@@ -15,7 +15,7 @@ use Rattle.state_rows.specs.ServerChanges.{after_add_server, after_add_session, 
 use Rattle.state_rows.specs.ServerRows.{IsSession, is_new, is_open, is_to_open, session_at}
 use Rattle.state_rows.specs.declared.messages.Message.{Message}
 use Rattle.state_rows.specs.declared.messages.Way.{Way}
-use Rattle.state_rows.specs.declared.messages.Way.TheVariants.{Async, Sync, Disconnect}
+use Rattle.state_rows.specs.declared.messages.Way.TheVariants.{Async}
 use Rattle.state_rows.specs.declared.servers.Connection.{Connection}
 use Rattle.state_rows.specs.declared.servers.Connection.TheVariants.{New, Open, Closed}
 use Rattle.state_rows.specs.declared.servers.ServerRow.{ServerRow}
@@ -55,6 +55,7 @@ use Rattle.move_laws.proofs.RowLaws.MessagesKept.{messages-sessions}
 use Rattle.move_laws.proofs.RowLaws.NewServers.{servers-join, servers-start, unmade_session}
 use Rattle.move_laws.proofs.RowLaws.ServerDuties.{duties-servers}
 use Rattle.move_laws.proofs.RowLaws.Servers.{servers-closing, servers-session}
+use Rattle.move_laws.proofs.MoveLaws.Silent.{silent_of}
 
 -- the rows of servers and sessions change, and no reference does
 record AreServed (S : State) (new : ServerRows) : Type 0 where
@@ -233,9 +234,7 @@ sound-start script S o u may rows =
 -- a message that disconnects a session names it
 disconnects_one : (b : Bool) (way : Way) → (if b then disconnect_bit_of way else 0) ≤ (if b then 1 else 0)
 disconnects_one true (Async status) = omega arith
-disconnects_one true Sync = omega arith
-disconnects_one true Disconnect = omega arith
-disconnects_one false way = omega arith
+disconnects_one _ _ = omega arith
 
 disconnects_named : (s : ObjNo) (xs : List Message) → total (disconnects_of s) xs ≤ total (message_names s) xs
 disconnects_named s [] = omega arith
@@ -353,13 +352,7 @@ sound-join script S s o slots u may rows =
 
 -- that a server ends tells of no reference and no death
 pub server_silent : (S : State) (o : ObjNo) → IsSilent S (Terminated o ∷ [])
-server_silent S o = record {
-  quiet = record { minuses = λ p. refl; deaths = λ p. refl; removals = λ p. refl };
-  pluses = λ p. refl;
-  found = λ p h. absurd (omega arith);
-  fits = (tt, tt);
-  after = λ g x. refl;
-}
+server_silent S o = silent_of S (λ o. refl) (λ o. refl) (tt, tt) (λ g x. refl)
 
 sound-end : (script : Script) (S : State) (o : ObjNo) → AreRows script S → Sound script S S (Terminated o ∷ [])
 sound-end script S o rows =
@@ -386,5 +379,4 @@ sound-servers script S t (End o) fits rows = sound-end script S o rows
 -- it sweeps nothing
 pub server_removes : (m : ServerMove) (p : ObjNo) → removals (server_told m) p ≡ 0
 server_removes (Join s o slots t) p = refl
-server_removes (End o) p = refl
 server_removes _ p = refl

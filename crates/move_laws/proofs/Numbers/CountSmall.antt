@@ -21,7 +21,7 @@ use Rattle.move_laws.proofs.RowLaws.FewMessages.{messages_few}
 use Rattle.state_rows.specs.declared.thread.Stage.{Stage}
 use Rattle.state_rows.specs.declared.thread.Stage.TheVariants.{Buried}
 
-option_le : (o : ObjNo) (x : Option ObjNo) → option_names o x ≤ 1
+pub option_le : (o : ObjNo) (x : Option ObjNo) → option_names o x ≤ 1
 option_le o None = omega arith
 option_le o (Some x) = same_le x o
 

@@ -38,36 +38,28 @@ closed_few false h o = omega arith
 
 nano_few : (m : NanoMove) → length (nano_told m) ≤ nano_most m
 nano_few (Take t f) = omega arith
-nano_few (Give t f) = omega arith
 nano_few _ = omega arith
 
 request_few : (m : RequestMove) → length (request_told m) ≤ request_most m
 request_few (Complete d t s code) = omega arith
-request_few (Signal t s code) = omega arith
-request_few (Reply t code) = omega arith
 request_few _ = omega arith
 
 lock_few : (m : LockMove) → length (lock_told m) ≤ lock_most m
 lock_few (Lock o t Taken) = omega arith
 lock_few (Unlock o t Freed) = omega arith
-lock_few (Unlock o t (Passed w)) = omega arith
 lock_few (Free o t None) = omega arith
-lock_few (Free o t (Some w)) = omega arith
 lock_few _ = omega arith
 
 server_few : (m : ServerMove) → length (server_told m) ≤ server_most m
 server_few (Join s o slots t) = omega arith
-server_few (End o) = omega arith
 server_few _ = omega arith
 
 message_few : (m : MessageMove) (r : MessageRows) → length (message_told m r) ≤ message_most m
 message_few (Accept slots row) r = omega arith
-message_few (Finish n code) r = omega arith
 message_few _ r = omega arith
 
 death_few : (m : DeathMove) → length (death_told m) ≤ death_most m
 death_few (Doom t exit) = omega arith
-death_few (Bury t) = omega arith
 death_few _ = omega arith
 
 told_few : (m : Move) (S : State) → length (told m S) ≤ most_told m
@@ -95,22 +87,16 @@ tell_few t (m ∷ ms) S =
 -- move of these adds so much to what is owed
 pub nano-tells : (m : NanoMove) → nano_most m ≤ 1
 nano-tells (Take t f) = omega arith
-nano-tells (Give t f) = omega arith
 nano-tells _ = omega arith
 
 pub request-tells : (m : RequestMove) → request_most m ≤ 1
 request-tells (Complete d t s code) = omega arith
-request-tells (Signal t s code) = omega arith
-request-tells (Reply t code) = omega arith
 request-tells _ = omega arith
 
 pub lock-tells : (m : LockMove) → lock_most m ≤ 3
 lock-tells (Lock o t locked) = omega arith
-lock-tells (Unlock o t unlocked) = omega arith
-lock-tells (Free o t best) = omega arith
 lock-tells _ = omega arith
 
 pub lock-owes : (m : LockMove) → lock_owes m ≤ 4
 lock-owes (Unlock o t unlocked) = omega arith
-lock-owes (Free o t best) = omega arith
 lock-owes _ = omega arith

@@ -24,9 +24,10 @@ use Rattle.machine.specs.Rows.{with_row}
 use Rattle.machine.specs.WellFormed.{AreAwaited, AreLogons, IsLiveThread, logon_names, times_logged}
 use Rattle.move_laws.proofs.Holders.ThreadRows.{row-here, row-other}
 use Rattle.move_laws.proofs.References.Same.{same_object}
-use Rattle.move_laws.proofs.RowLaws.Logons.{filtered_each, logon-added, the_logon, total-at, total-filter}
+use Rattle.move_laws.proofs.RowLaws.Logons.{logon-added, the_logon}
 use Rattle.move_laws.proofs.RowLaws.Requests.{device_had, device_is, dropped, of_status}
 use Rattle.move_laws.proofs.RowLaws.Threads.{was_row}
+use Rattle.move_laws.proofs.Lists.Totals.{total-filter, filtered_each, total-at}
 
 -- a live thread stays so, where a row changes that stays live if it was
 live-with_row : (threads : List (Option ThreadRow)) (u : ObjNo) (f : ThreadRow → ThreadRow) (v : ObjNo)

@@ -17,6 +17,7 @@ use Rattle.state_rows.specs.declared.thread.Role.{Role}
 use Rattle.state_rows.specs.declared.thread.Role.TheVariants.{Supervisor, Queue, Declared}
 use Rattle.machine.specs.Reaping.{burial_of}
 use Rattle.machine.specs.WellFormed.{AreCalls, IsRole}
+use Rattle.move_laws.proofs.Lists.Each.{all-both, all-replicate, all-map}
 
 -- the place of what passes a test is inside the list
 position_inside : {A : Type 0} (test : A → Bool) (xs : List A) (i : ℕ) → position test xs ≡ Some i → i < length xs
@@ -56,18 +57,6 @@ burial_inside script r role h declared =
     by Supervisor declared = omega arith
     by (Queue queue) declared = omega arith
     by (Declared k) declared = omega arith
-
-pub all-both : {A : Type 0} (P : A → Type 0) (xs ys : List A) → AllByRecursion P xs → AllByRecursion P ys → AllByRecursion P (xs ++ ys)
-all-both P [] ys all more = more
-all-both P (x ∷ xs) ys all more = (all.0, all-both P xs ys all.1 more)
-
-all-replicate : {A : Type 0} (P : A → Type 0) (n : ℕ) (x : A) → P x → AllByRecursion P (replicate n x)
-all-replicate P zero x p = tt
-all-replicate P (suc n) x p = (p, all-replicate P n x p)
-
-all-map : {A B : Type 0} (P : B → Type 0) (f : A → B) (xs : List A) → ((x : A) → P (f x)) → AllByRecursion P (map f xs)
-all-map P f [] each = tt
-all-map P f (x ∷ xs) each = (each x, all-map P f xs each)
 
 number_below : (found : Option ℕ) (n : ℕ) → ((k : ℕ) → found ≡ Some k → k < n) → queue_number found < 1 + n
 number_below None n inside = omega arith

@@ -49,8 +49,7 @@ sync_bit message = sync_bit_of message.row.way
 
 one_bit : (way : Way) → async_bit_of way + sync_bit_of way + disconnect_bit_of way ≡ 1
 one_bit (Async s) = refl
-one_bit Sync = refl
-one_bit Disconnect = refl
+one_bit _ = refl
 
 each_one : (xs : List Message) → length xs ≡ total async_bit xs + total sync_bit xs + total disconnect_bit xs
 each_one [] = refl

@@ -1,9 +1,9 @@
 -- The rows of logons, where one is made, where some go, and where requests change.
-use Rattle.std.proofs.Common.{◌≡◌, inl, inr, ℕ, ℤ, ◌+◌, ◌<◌, ◌≤◌, Bool, true, false, List, [], ◌∷◌, ◌++◌, length, map, get_or, set, arith, refl, sym, ap, subst, ◌∙◌}
-use Rattle.std.specs.Prelude.{Some, is_some, filter, not, ◌==◌, if◌then◌else◌}
+use Rattle.std.proofs.Common.{◌≡◌, inl, inr, ℕ, ℤ, ◌+◌, ◌<◌, ◌≤◌, Bool, true, false, List, [], ◌∷◌, ◌++◌, length, map, set, arith, refl, sym, ap, subst, ◌∙◌}
+use Rattle.std.specs.Prelude.{Some, is_some, not, ◌==◌, if◌then◌else◌}
 use Rattle.std.specs.Ordering.{int_eq}
 use Rattle.std.proofs.lemmas.Bool.{and_parts, cases_lt, eqb-true}
-use Rattle.std.proofs.lemmas.List.{length-map, length-set, set_past}
+use Rattle.std.proofs.lemmas.List.{length-map, length-set}
 use Rattle.sym_base.specs.declared.number.ObjNo.{ObjNo}
 use Rattle.state_rows.specs.declared.requests.Request.{Request}
 use Rattle.state_rows.specs.declared.requests.RequestRows.{RequestRows}
@@ -20,7 +20,7 @@ use Rattle.machine.specs.LogonMoves.{is_logon, is_made_by, logons_moved, logons_
 use Rattle.machine.specs.RequestMoves.{request_moved}
 use Rattle.machine.specs.References.{total}
 use Rattle.machine.specs.WellFormed.{AreLogons, AreRequests, IsAwaited, logon_names, times_logged}
-use Rattle.move_laws.proofs.Lists.Totals.{total-append, total-set}
+use Rattle.move_laws.proofs.Lists.Totals.{total-append, total-set, total-filter, filtered_each, total-at}
 use Rattle.move_laws.proofs.References.Same.{same_object}
 use Rattle.move_laws.proofs.RowLaws.Requests.{device_had, device_is, dropped, of_status}
 
@@ -38,27 +38,6 @@ names_few u s x = by (is_logon u s x)
     by : (b : Bool) → (if b then 1 else 0) ≤ 1
     by true = omega arith
     by false = omega arith
-
--- those of a list that pass a test are no more
-pub total-filter : {A : Type 0} (f : A → ℕ) (p : A → Bool) (xs : List A) → total f (filter p xs) ≤ total f xs
-total-filter f p [] = omega arith
-total-filter f p (x ∷ xs) = by (p x) (total-filter f p xs)
-  where
-    by : (b : Bool) → total f (filter p xs) ≤ total f xs → total f (if b then x ∷ filter p xs else filter p xs) ≤ f x + total f xs
-    by true le = omega arith
-    by false le = omega arith
-
-pub filtered_each : {A : Type 0} (f : A → ℕ) (p : A → Bool) (xs : List (List A)) → total (total f) (map (filter p) xs) ≤ total (total f) xs
-filtered_each f p [] = omega arith
-filtered_each f p (x ∷ xs) = let a = total-filter f p x in let b = filtered_each f p xs in omega arith
-
--- another list at a place
-pub total-at : {A : Type 0} (f : A → ℕ) (xs : List (List A)) (i : ℕ) (ys : List A)
-    → total f ys ≤ total f (get_or xs i []) → total (total f) (set xs i ys) ≤ total (total f) xs
-total-at f xs i ys le = elim (cases_lt i (length xs)) as (λ _. total (total f) (set xs i ys) ≤ total (total f) xs) [
-  | inl inside ↦ let a = total-set (total f) xs i ys [] inside in omega arith
-  | inr past ↦ let same = set_past xs i ys past in let a = ap (total (total f)) same in omega arith
-]
 
 -- fewer logons
 logons-fewer : (count : ℕ) (r : RequestRows) (logons other : List (List (ObjNo × ℕ))) → length other ≡ length logons

@@ -24,9 +24,8 @@ use Rattle.machine.specs.Serving.{AreMessages, call_names, disconnect_bit_of, di
 use Rattle.machine.specs.WellFormed.{IsUntold}
 use Rattle.machine.specs.declared.state.State.{State}
 use Rattle.move_laws.proofs.Lists.Contents.{contains_filter, contains_map, total-map}
-use Rattle.move_laws.proofs.Lists.Totals.{total-append}
+use Rattle.move_laws.proofs.Lists.Totals.{total-append, total-filter}
 use Rattle.move_laws.proofs.References.Same.{eqb_apart, if_le, if_not, if_zero, same_object}
-use Rattle.move_laws.proofs.RowLaws.Logons.{total-filter}
 use Rattle.move_laws.proofs.RowLaws.Rising.{edited-value, rising-filter, rising-map, rising-push}
 
 -- who sent a message in which way

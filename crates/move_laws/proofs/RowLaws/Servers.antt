@@ -35,7 +35,7 @@ still_server r new t o same h = by (server_at new o) refl
         let e : row.owner ≡ h.row.owner = cc in
         record { row = row; is = is; owner = ap (λ (u : ObjNo). u.0) e ∙ h.owner }
 
-closing_closes : (x : Option ServerRow) → closes x ≡ true → closes (option_map closing x) ≡ true
+pub closing_closes : (x : Option ServerRow) → closes x ≡ true → closes (option_map closing x) ≡ true
 closing_closes None e = e
 closing_closes (Some row) e = refl
 

@@ -74,7 +74,7 @@ free_index_le_step : (x : Option ObjNo) (n m : ℕ) → n ≤ m → (if is_none 
 free_index_le_step None n m h = omega arith
 free_index_le_step (Some x) n m h = omega arith
 
-free_index_le : (slots : List HandleSlot) → free_index slots ≤ length slots
+pub free_index_le : (slots : List HandleSlot) → free_index slots ≤ length slots
 free_index_le [] = omega arith
 free_index_le (slot ∷ slots) = free_index_le_step slot.object _ _ (free_index_le slots)
 
@@ -96,7 +96,7 @@ pub free_index_is_free : (slots : List HandleSlot) → (slot_at slots (free_inde
 free_index_is_free [] = refl
 free_index_is_free (slot ∷ slots) = free_index_is_free_step slot slots slot.object refl (free_index_is_free slots)
 
-object_of_step : (b : Bool) (x : Option ObjNo) (o : ObjNo) → (if b then x else None) ≡ Some o → x ≡ Some o
+pub object_of_step : (b : Bool) (x : Option ObjNo) (o : ObjNo) → (if b then x else None) ≡ Some o → x ≡ Some o
 object_of_step true x o e = e
 object_of_step false x o e = cc
 
