@@ -37,7 +37,7 @@ use Rattle.machine.specs.LockMoves.{lock_told}
 use Rattle.machine.specs.MessageMoves.{message_told}
 use Rattle.machine.specs.Moves.{closed_effects, moved, next_object, tell, told}
 use Rattle.machine.specs.NanoMoves.{nano_told}
-use Rattle.machine.specs.Out.{found_object, is_returning, seeks}
+use Rattle.machine.specs.Out.{is_returning, seeks}
 use Rattle.machine.specs.References.{count_of, mutex_names, pluses, same, total}
 use Rattle.machine.specs.RequestMoves.{request_told}
 use Rattle.machine.specs.Rows.{object_of, thread_of}
@@ -165,12 +165,12 @@ module _ (script : Script) (S : State) (t : ObjNo) (rows : AreRows script S) (o 
       let here : x ≡ o = same_is x o (omega arith) in
       let back = fits.0.back in
       let place = place_of (object_of S o) in
-      let sought : back.row.sought ≡ place = sym fits.0.same ∙ ap (λ (y : ObjNo). place_of (object_of S y)) here in
+      let sought : back.row.sought_place ≡ place = sym fits.0.same ∙ ap (λ (y : ObjNo). place_of (object_of S y)) here in
       let out : seeks o place (thread_of S t) ≡ same x o =
       ap (λ (y : ObjNo). seeks o place (thread_of S y)) (sym fits.1)
       ∙ ap (seeks o place) back.is
-      ∙ if_is (is_returning back.row.part && back.row.sought == place) (same (found_object back.row) o)
-      (and_from (is_returning back.row.part) (back.row.sought == place) back.returns (eq-eqb back.row.sought place sought))
+      ∙ if_is (is_returning back.row.part && back.row.sought_place == place) (same back.row.sought o)
+      (and_from (is_returning back.row.part) (back.row.sought_place == place) back.returns (eq-eqb back.row.sought_place place sought))
       ∙ ap (λ (y : ObjNo). same y o) back.found in
       let gone = away (omega arith) in omega arith)
   plus-none (Nano m) fits away = plus-nano m o

@@ -10,7 +10,7 @@ use Rattle.machine.specs.declared.moves.Move.TheVariants.{Find, Miss, Open}
 use Rattle.machine.specs.declared.state.State.{State}
 use Rattle.machine.specs.Fits.{EachFits, FitsMove}
 use Rattle.machine.specs.Moves.{moved, perform, with_found, with_missed, with_opened}
-use Rattle.machine.specs.Out.{found_object, is_returning, seeks}
+use Rattle.machine.specs.Out.{is_returning, seeks}
 use Rattle.machine.specs.References.{same, total}
 use Rattle.machine.specs.Rows.{object_of, thread_of, with_row}
 use Rattle.machine.specs.WellFormed.{AreRows}
@@ -48,7 +48,7 @@ seeks-found script S t v x fits rows o place =
     let few = rows.references.sized.objects_few in
     let p = place_of (object_of S x) in
     ap (seeks o place) (changed S.references.threads v (with_found x p) t may.row fits.1 may.is)
-    ∙ ap (λ (y : ObjNo). if p == place then same y o else 0) (same_object (found_object (with_found x p may.row)) x (omega arith))
+    ∙ ap (λ (y : ObjNo). if p == place then same y o else 0) (same_object ((with_found x p may.row).sought) x (omega arith))
 
 -- the acting thread comes to be out by a find alone
 pub seeks-le : (script : Script) (S : State) (t : ObjNo) (m : Move) → FitsMove script t m S → AreRows script S

@@ -21,7 +21,6 @@ use Rattle.machine.specs.Find.{find_object, findable}
 use Rattle.machine.specs.Handles.{object_at}
 use Rattle.machine.specs.Look.{is_of_kind, of_kind}
 use Rattle.machine.specs.Moves.{perform, with_found}
-use Rattle.machine.specs.Out.{found_object}
 use Rattle.machine.specs.References.{count_of}
 use Rattle.machine.specs.Rows.{object_of}
 use Rattle.machine.specs.WellFormed.{AreRows}

@@ -28,7 +28,6 @@ use Rattle.state_rows.proofs.SoundChanges.{set_item}
 use Rattle.machine.specs.Boot.{boot_in}
 use Rattle.machine.specs.History.{next}
 use Rattle.machine.specs.Moves.{moved, perform, threads_closed, unlinked}
-use Rattle.machine.specs.Out.{found_object}
 use Rattle.machine.specs.References.{total}
 use Rattle.machine.specs.Steps.{return_of, step_of}
 use Rattle.machine.specs.Task.{instruction}
@@ -72,7 +71,7 @@ takes-receiving (instr.Receive x y) (Some part.Done) e = refl
 takes-receiving i p e = absurd (cc)
 
 pub met-kept : (S T : State) (u : ObjNo) (old row : ThreadRow) (i : Instr) → old.part ≡ row.part → old.uses ≡ row.uses
-    → old.found ≡ row.found → old.sought ≡ row.sought
+    → old.found ≡ row.found → old.sought_place ≡ row.sought_place
     → ((s : ℕ) → IsUnset S.synchronization.requests u s → IsUnset T.synchronization.requests u s)
     → (is_some (want_of S.synchronization.nano u) ≡ true → is_some (want_of T.synchronization.nano u) ≡ true)
     → ((k : Kind) (o : ObjNo) → old.uses ≡ Some o → IsOfKind S.references.objects k o → IsOfKind T.references.objects k o)
@@ -86,9 +85,9 @@ met-kept S T u old row i part uses found sought unset want kinds finds owned cam
   wanted = λ is. want (met.wanted (ap (wants_at i) part ∙ is));
   used = λ k o is used. kinds k o (uses ∙ used) (met.used k o (ap (kind_used i) part ∙ is) (uses ∙ used));
   found =
-      λ k is. subst (λ (n : ℕ). FoundOf T k n (found_object row)) sought
-      (subst (FoundOf T k old.sought) (ap (λ (n : ℕ). record { 0 = n % 65536 }) found)
-      (finds k old.sought (found_object old) (met.found k (ap (kind_found i) part ∙ is))));
+      λ k is. subst (λ (n : ℕ). FoundOf T k n row.sought) sought
+      (subst (FoundOf T k old.sought_place) (ap (λ (n : ℕ). record { 0 = n % 65536 }) found)
+      (finds k old.sought_place old.sought (met.found k (ap (kind_found i) part ∙ is))));
   owned = λ o is used. let receives = ap (receiving (Some i)) part ∙ is in owned o receives (uses ∙ used) (met.owned o receives (uses ∙ used));
   came = λ o is used.
       let takes = ap (takes_at i) part ∙ is in
@@ -126,7 +125,7 @@ come-later S T old row o waits next shut (inr there) = inr (ap is_some next ∙ 
 met-paid : (script : Script) (S : State) (t : ObjNo) (what : Owed) (u : ObjNo) (old row : ThreadRow) (i : Instr)
     → AreRows script S → SweepsDead S what
     → thread_of S u ≡ Some old → thread_of (moved t (Pay what) S) u ≡ Some row → old.part ≡ row.part
-    → old.uses ≡ row.uses → old.found ≡ row.found → old.sought ≡ row.sought → Met S u old i old.part → Met (moved t (Pay what) S) u row i row.part
+    → old.uses ≡ row.uses → old.found ≡ row.found → old.sought_place ≡ row.sought_place → Met S u old i old.part → Met (moved t (Pay what) S) u row i row.part
 met-paid script S t (duty.Close h x) u old row i rows dead was is part uses found sought met =
     met-kept S (moved t (Pay (duty.Close h x)) S) u old row i part uses found sought
     (λ s was. record { done = was.done; free = was.free }) (λ is. is)

@@ -44,7 +44,7 @@ pub record WasMidway (threads : List (Option ThreadRow)) (k : ℕ) (row : Thread
   pub place : old.next_instruction ≡ row.next_instruction
   pub part : old.part ≡ row.part
   pub found : old.found ≡ row.found
-  pub sought : old.sought ≡ row.sought
+  pub sought : old.sought_place ≡ row.sought_place
   pub uses : old.uses ≡ row.uses
   pub live : row.stage ≡ Live → old.stage ≡ Live
 
@@ -54,7 +54,7 @@ record KeepsMidway (f : ThreadRow → ThreadRow) : Type 0 where
   pub place : (row : ThreadRow) → (f row).next_instruction ≡ row.next_instruction
   pub part : (row : ThreadRow) → (f row).part ≡ row.part
   pub found : (row : ThreadRow) → (f row).found ≡ row.found
-  pub sought : (row : ThreadRow) → (f row).sought ≡ row.sought
+  pub sought : (row : ThreadRow) → (f row).sought ≡ row.sought_place
   pub uses : (row : ThreadRow) → (f row).uses ≡ row.uses
   pub live : (row : ThreadRow) → (f row).stage ≡ Live → row.stage ≡ Live
 

@@ -31,7 +31,7 @@ use Rattle.machine.specs.Holdings.{closing_holdings, held_handles, held_logons, 
 use Rattle.machine.specs.Kept.{dies}
 use Rattle.machine.specs.LogonMoves.{logons_on}
 use Rattle.machine.specs.Moves.{link_of, link_of_row, link_or, moved, owed_by_close, perform, with_missed, with_opened}
-use Rattle.machine.specs.Out.{found_object, is_out, is_returning, part_of}
+use Rattle.machine.specs.Out.{is_out, is_returning, part_of}
 use Rattle.state_rows.specs.Deferred.{queue_of}
 use Rattle.machine.specs.declared.deferred_move.DeferredMove.TheVariants.{Add}
 use Rattle.machine.specs.Reaping.{burial_of}
@@ -286,12 +286,12 @@ module _ (script : Script) (S : State) (t : ObjNo) (row : ThreadRow) (rows : Are
 
   return-lowers : (w : Word) (to : Part) → is_returning row.part ≡ true → is_returning (Some to) ≡ false → Does (return_to S t row w to)
   return-lowers w to returns back =
-      if_cases Does (is_open row.sought (object_of S (found_object row))) _ _ (λ _. open-lowers (found_object row) to returns back)
+      if_cases Does (is_open row.sought_place (object_of S row.sought)) _ _ (λ _. open-lowers row.sought to returns back)
       (λ _. missed (is_live row.stage) (ap is_live doomed))
     where
-      missed : (live : Bool) → live ≡ false → Does (miss t w (found_object row) live)
+      missed : (live : Bool) → live ≡ false → Does (miss t w row.sought live)
       missed true e = absurd (cc)
-      missed false e = miss-lowers (found_object row) returns
+      missed false e = miss-lowers row.sought returns
 
   returns-lowers : (i : Instr) → finds_by_name (Some i) ≡ true → is_returning row.part ≡ true → Does (return_of S t row i)
   returns-lowers (instr.Open kind name x) finds returns = return-lowers word.Open part.Do returns refl

@@ -29,7 +29,7 @@ use Rattle.machine.specs.Told.{finds}
 use Rattle.machine.specs.Holding.{is_holder, held_after_all, EachFitsHolders, link_names}
 use Rattle.machine.specs.HeldIn.{held_in, use_names}
 use Rattle.machine.specs.Task.{instructions_of}
-use Rattle.machine.specs.Out.{found_object, is_returning, outs_of, part_of, seeks}
+use Rattle.machine.specs.Out.{is_returning, outs_of, part_of, seeks}
 use Rattle.machine.specs.Fits.{FitsMove, IsBack, MayMiss, WaitsNowhere}
 use Rattle.machine.specs.FitsServers.{IsUncalled}
 use Rattle.machine.specs.Serving.{AreMessages, AreServers, begun, numbers_left}
@@ -242,8 +242,8 @@ sound-find script S t u o fits rows =
     let threads = S.references.threads in
     let same_row = λ (row : ThreadRow) (is : thread_of S u ≡ Some row). one_row S u may.row row may.is is in
     let before : (p : ObjNo) (place : ℕ) → seeks p place (thread_of S u) ≡ 0 = λ p place. ap (seeks p place) may.is
-    ∙ if_not (is_returning may.row.part && may.row.sought == place) (same (found_object may.row) p)
-    (ap (λ (b : Bool). b && may.row.sought == place) may.going) in
+    ∙ if_not (is_returning may.row.part && may.row.sought_place == place) (same may.row.sought p)
+    (ap (λ (b : Bool). b && may.row.sought_place == place) may.going) in
     sound-row-out script S u f (Seek o ∷ [])
     (λ p alive. let place = place_of (object_of S p) in
     out-le S.mode.shared (total (seeks p place) threads) (total (seeks p place) (with_row threads u f))
