@@ -16,6 +16,9 @@ use std::alloc::Global;
 use std::marker::Model;
 use sym_base::NoMemory;
 
+/// The most calls that a script has, with the burials of its threads.
+const NUMBERS: usize = 256;
+
 /// The queues of deferred function calls, and how many there are beside the immediate one. A contract sees their rows.
 /// What is past them reads as empty.
 #[derive(Drop)]
@@ -25,14 +28,14 @@ pub struct CallQueues {
 }
 
 impl Model for CallQueues {
-    ghost use Rattle.std.specs.Prelude.{◌≡◌, length};
+    ghost use Rattle.std.specs.Prelude.{◌≡◌, ◌≤◌, ◌×◌, length};
     ghost use Rattle.state_rows.specs.declared.deferred.DeferredRows.{DeferredRows};
 
     ghost Value = { DeferredRows };
 
     ghost view = { λ q. q.calls };
 
-    ghost invariant = { λ q. length q.calls.queues ≡ q.count };
+    ghost invariant = { λ q. (length q.calls.queues ≡ q.count) × (length q.calls.places ≤ 256) };
 }
 
 impl CallQueues {
@@ -55,14 +58,14 @@ impl CallQueues {
     }
 
     /// The call of a queue that runs next.
-    pub fn next_call(&self, queue: u8) -> Option<u8>
+    pub fn next_call(&self, queue: u8) -> Option<usize>
         ensures { result ≡ next_of self.now queue }
     {
-        if queue < self.count {
-            self.calls.first_dfc(queue)
-        } else {
-            None
+        if queue >= self.count {
+            return None;
         }
+        let dfc = self.calls.first_dfc(queue)?;
+        Some(dfc as usize)
     }
 
     /// The oldest item of the immediate queue.
@@ -80,10 +83,14 @@ impl CallQueues {
     }
 
     /// The queue of a deferred function call.
-    pub fn queue_of(&self, dfc: u8) -> u8
+    pub fn queue_of(&self, dfc: usize) -> u8
         ensures { result ≡ queue_of self.now dfc }
     {
-        self.calls.queue_of(dfc)
+        if dfc < NUMBERS {
+            self.calls.queue_of(dfc as u8)
+        } else {
+            0
+        }
     }
 
     /// One move in the queues.
@@ -99,7 +106,7 @@ impl CallQueues {
                 let _ = self.calls.add_from_irq(dfc);
             }
             DeferredMove::Add(dfc, _) => {
-                let _ = self.calls.add(dfc);
+                let _ = self.calls.add(dfc as u8);
             }
             DeferredMove::TakeImmediate => {
                 let _ = self.calls.next_idfc();
