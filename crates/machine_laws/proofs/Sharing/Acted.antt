@@ -1,6 +1,7 @@
 -- Who is able to act where one caller is alone may act where callers share the kernel, and does the same.
 use Rattle.std.proofs.Common.{◌≡◌, ℕ, List, refl, ap, sym, subst, ◌∙◌, Option, Some, None, Bool, true, false}
 use Rattle.std.specs.Prelude.{◌&&◌, ◌||◌, not, is_none, is_some}
+use Rattle.std.proofs.Math.Bool.{and-true}
 use Rattle.sym_base.specs.declared.number.ObjNo.{ObjNo}
 use Rattle.script_types.specs.declared.script.Script.{Script}
 use Rattle.entry_log.specs.declared.effect.Effect.{Effect}
@@ -27,19 +28,17 @@ use Rattle.machine.specs.Transition.{Transition, act, carried_out}
 use Rattle.machine_laws.proofs.Sharing.Decided.{decided-mode, plan-mode, task-mode}
 use Rattle.machine_laws.proofs.Sharing.Moved.{in_mode, IsAlone, TellsNoDeath, perform-mode, tell-mode}
 
+nothing_out : (b : Bool) → false ≡ (b && false)
+nothing_out true = refl
+nothing_out false = refl
+
 -- who is able where one caller is alone is able where callers share the kernel, unless it is out
 out_bits : (acts waits returns going has free : Bool)
     → (acts && not (waits || returns) && going && has && free) ≡ ((acts && not (waits || false) && going && has && free) && not returns)
 out_bits false waits returns going has free = refl
-out_bits true true returns going has free = refl
-out_bits true false true true true true = refl
-out_bits true false true true true false = refl
-out_bits true false true true false free = refl
-out_bits true false true false has free = refl
-out_bits true false false true true true = refl
-out_bits true false false true true false = refl
-out_bits true false false true false free = refl
-out_bits true false false false has free = refl
+out_bits true waits false going has free = sym (and-true (not (waits || false) && going && has && free))
+out_bits true true true going has free = refl
+out_bits true false true going has free = nothing_out (going && has && free)
 
 module _ (script : Script) (keep : Bool) (S : State) (alone : IsAlone S) where
   shared-not : S.mode.shared ≡ false
