@@ -125,7 +125,8 @@ come-later S T old row o waits next shut (inr there) = inr (ap is_some next ∙ 
 met-paid : (script : Script) (S : State) (t : ObjNo) (what : Owed) (u : ObjNo) (old row : ThreadRow) (i : Instr)
     → AreRows script S → SweepsDead S what
     → thread_of S u ≡ Some old → thread_of (moved t (Pay what) S) u ≡ Some row → old.part ≡ row.part
-    → old.uses ≡ row.uses → old.sought ≡ row.sought → old.sought_place ≡ row.sought_place → Met S u old i old.part → Met (moved t (Pay what) S) u row i row.part
+    → old.uses ≡ row.uses → old.sought ≡ row.sought → old.sought_place ≡ row.sought_place → Met S u old i old.part
+    → Met (moved t (Pay what) S) u row i row.part
 met-paid script S t (duty.Close h x) u old row i rows dead was is part uses sought place met =
     met-kept S (moved t (Pay (duty.Close h x)) S) u old row i part uses sought place
     (λ s was. record { done = was.done; free = was.free }) (λ is. is)

@@ -61,7 +61,18 @@ record KeepsMidway (f : ThreadRow → ThreadRow) : Type 0 where
   pub live : (row : ThreadRow) → (f row).stage ≡ Live → row.stage ≡ Live
 
 midway-same : (threads : List (Option ThreadRow)) (k : ℕ) (row : ThreadRow) → get_or threads k None ≡ Some row → WasMidway threads k row
-midway-same threads k row is = record { old = row; was = is; role = refl; place = refl; part = refl; found = refl; sought = refl; sought_place = refl; uses = refl; live = λ e. e }
+midway-same threads k row is = record {
+  old = row;
+  was = is;
+  role = refl;
+  place = refl;
+  part = refl;
+  found = refl;
+  sought = refl;
+  sought_place = refl;
+  uses = refl;
+  live = λ e. e;
+}
 
 midway-with : (threads : List (Option ThreadRow)) (u : ObjNo) (f : ThreadRow → ThreadRow) → KeepsMidway f
     → (k : ℕ) (row : ThreadRow) → get_or (with_row threads u f) k None ≡ Some row → WasMidway threads k row

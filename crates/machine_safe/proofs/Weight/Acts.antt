@@ -314,7 +314,8 @@ module _ (script : Script) (S : State) (t : ObjNo) (row : ThreadRow) (rows : Are
       let able = able-by (is_able script S t) (is_out S t) S.mode.shared (is_returning row.part) may
       (ap (λ (r : Option ThreadRow). S.mode.shared && is_returning (part_of r)) is) back in
       let parts = both (is_ready script S t) (is_none (wanted_holder S.synchronization.nano t)) able in
-      waits-not row.waiting (S.mode.shared && is_returning row.part) (sym (ap (λ (r : Option ThreadRow). not (is_waiting_row S.mode.shared r)) is) ∙ (ready_parts script S t parts.0).waits)
+      waits-not row.waiting (S.mode.shared && is_returning row.part)
+      (sym (ap (λ (r : Option ThreadRow). not (is_waiting_row S.mode.shared r)) is) ∙ (ready_parts script S t parts.0).waits)
 
   module _ (may : may_act script S t ≡ true) (finds : is_returning row.part ≡ true → finds_by_name (instruction script row) ≡ true) where
     dying : is_returning row.part ≡ false → IsDying script S t row
