@@ -8,7 +8,6 @@ use Rattle.script_types.specs.declared.declaration.DfcDecl.{DfcDecl}
 use Rattle.script_types.specs.declared.declaration.IdfcDecl.{IdfcDecl}
 use Rattle.script_types.specs.declared.declaration.QueueDecl.{QueueDecl}
 use Rattle.script_types.specs.declared.script.Script.{Script}
-use Rattle.script_types.specs.Shape.{IsShaped}
 use Rattle.state_rows.specs.Deferred.{queue_of}
 use Rattle.state_rows.specs.DeferredChanges.{burial, places_of}
 use Rattle.state_rows.specs.declared.deferred.DeferredRows.{DeferredRows}
@@ -57,12 +56,6 @@ burial_inside script r role h declared =
     by Supervisor declared = omega arith
     by (Queue queue) declared = omega arith
     by (Declared k) declared = omega arith
-
--- its number has 8 bits
-pub burial_small : (script : Script) (role : Role) → IsShaped script → IsRole script role → burial_of script role < 256
-burial_small script Supervisor shaped declared = omega arith
-burial_small script (Queue queue) shaped declared = let few = shaped.count in omega arith
-burial_small script (Declared k) shaped declared = let few = shaped.count in omega arith
 
 pub all-both : {A : Type 0} (P : A → Type 0) (xs ys : List A) → AllByRecursion P xs → AllByRecursion P ys → AllByRecursion P (xs ++ ys)
 all-both P [] ys all more = more
