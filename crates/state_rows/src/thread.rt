@@ -60,7 +60,7 @@ pub struct ThreadRow {
     pub role: Role,
     /// The process whose handles it uses.
     pub process: ObjNo,
-    /// Its reference to its process, until it is given up.
+    /// Its reference to its process, until it is given up: it never leads elsewhere (`IsThread`: `link`).
     pub link: Option<ObjNo>,
     pub stage: Stage,
     /// None exactly where no exit is set.

@@ -146,7 +146,8 @@ pub seeks-one : (S : State) (u o : ObjNo) (back : ComesBack S u o) → seeks o b
 seeks-one S u o back =
     ap (seeks o back.row.sought_place) back.is
     ∙ if_is (is_returning back.row.part && back.row.sought_place == back.row.sought_place) (same back.row.sought o)
-    (and_from (is_returning back.row.part) (back.row.sought_place == back.row.sought_place) back.returns (eq-eqb back.row.sought_place back.row.sought_place refl))
+    (and_from (is_returning back.row.part) (back.row.sought_place == back.row.sought_place) back.returns
+    (eq-eqb back.row.sought_place back.row.sought_place refl))
     ∙ ap (λ (x : ObjNo). same x o) back.found
     ∙ same_self o
 

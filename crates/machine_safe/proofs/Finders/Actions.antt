@@ -130,16 +130,16 @@ returning script S t row at may is returns = by (instruction script row) refl
 
 -- a find puts its thread out
 found-out : (script : Script) (S : State) (t : ObjNo) (ms : List Move) (o : ObjNo) → Doing script S t ms
-    → AreRows script S → ms ≡ Find t o ∷ [] → (place : ℕ)
+    → ms ≡ Find t o ∷ [] → (place : ℕ)
     → seeks o place (thread_of (perform t ms S) t) ≡ (if place_of (object_of S o) == place then same o o else 0)
-found-out script S t ms o does rows is place = ap (λ (l : List Move). seeks o place (thread_of (perform t l S) t)) is ∙ by (subst (Doing script S t) is does)
+found-out script S t ms o does is place = ap (λ (l : List Move). seeks o place (thread_of (perform t l S) t)) is ∙ by (subst (Doing script S t) is does)
   where
     Out : Type 0
     Out = seeks o place (thread_of (perform t (Find t o ∷ []) S) t) ≡ (if place_of (object_of S o) == place then same o o else 0)
 
     by : Doing script S t (Find t o ∷ []) → Out
     by does = elim does as (λ _. Out) [
-      | inl goes ↦ seeks-found script S t t o goes.each.0 rows o place
+      | inl goes ↦ seeks-found script S t t o goes.each.0 o place
       | inr other ↦ elim other as (λ _. Out) [
         | inl pays ↦ let clash = pays.moves in absurd (cc)
         | inr none ↦ absurd (cc)
@@ -168,7 +168,7 @@ module _ (script : Script) (S : State) (t : ObjNo) (shaped : IsShaped script) (r
   found-told o some =
       let told = finds-tell t d.moves S o in
       let moves = (finding o (omega arith)).moves in
-      let out = found-out script S t d.moves o does rows moves (place_of (object_of S o)) in
+      let out = found-out script S t d.moves o does moves (place_of (object_of S o)) in
       let one = if_is (place_of (object_of S o) == place_of (object_of S o)) (same o o)
       (eq-eqb (place_of (object_of S o)) (place_of (object_of S o)) refl) in
       let self = same_self o in omega arith
@@ -180,7 +180,7 @@ module _ (script : Script) (S : State) (t : ObjNo) (shaped : IsShaped script) (r
       let most = seeks-most script S t d.moves does rows o place in
       let told = finds-tell t d.moves S o in
       let moves = (finding o (omega arith)).moves in
-      let out = found-out script S t d.moves o does rows moves place in
+      let out = found-out script S t d.moves o does moves place in
       (omega arith, by (place_of (object_of S o) == place) refl (omega arith))
     where
       by : (b : Bool) → (place_of (object_of S o) == place) ≡ b → 0 < (if b then same o o else 0) → place ≡ place_of (object_of S o)

@@ -197,7 +197,7 @@ plus-going script S t (m ∷ ms) h o alive none unfound away =
     let unswept = zero_or (removals (told m S) o)
     (λ some. let swept = lives.removes o some in let undead_now = alive_undead (object_of S o) alive in omega arith) in
     let place = (lives.there o there unswept).1 in
-    let out = seeks-le script S t m h.each.0 h.sane.rows o (place_of (object_of S o)) in
+    let out = seeks-le script S t m h.each.0 o (place_of (object_of S o)) in
     let rest = plus-going script (moved t m S) t ms (going-then script S t m ms h) o (lives.stays o alive undead) (omega arith)
     (omega arith) (λ some. let gone = away (omega arith) in
     ap (λ (n : ℕ). seeks o n (thread_of (moved t m S) t)) place

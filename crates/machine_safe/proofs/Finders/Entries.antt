@@ -165,6 +165,7 @@ midway-doing script S t ms does u row stays later is = elim does as (λ _. WasMi
           part = refl;
           found = refl;
           sought = refl;
+          sought_place = refl;
           uses = refl;
           live = λ e. e;
         }

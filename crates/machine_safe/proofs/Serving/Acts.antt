@@ -21,7 +21,7 @@ use Rattle.machine.specs.Reaping.{finish_message, give_up}
 use Rattle.machine.specs.Rows.{thread_of}
 use Rattle.machine.specs.SharedRun.{is_return}
 use Rattle.machine.specs.Steps.{decision_of, pay, step_of}
-use Rattle.machine.specs.Task.{instruction, is_able, is_ready, is_stopped, is_waiting, may_act, next_call, task_of}
+use Rattle.machine.specs.Task.{instruction, is_able, is_ready, may_act, next_call, task_of}
 use Rattle.machine.specs.Transition.{act}
 use Rattle.machine.specs.WellFormed.{AreRows}
 use Rattle.machine.specs.declared.decision.Decision.{Decision}
@@ -55,6 +55,7 @@ use Rattle.state_rows.specs.declared.thread.Waiting.TheVariants as waiting
 use Rattle.std.proofs.Common.{Bool, None, Option, Some, ap, false, inl, inr, refl, sym, true, ℕ, ◌∙◌, ◌≡◌, ◌⊎◌, not}
 use Rattle.std.specs.Prelude.{is_none, is_some, nat_lt, slice_get, ◌&&◌, ◌||◌}
 use Rattle.sym_base.specs.declared.number.ObjNo.{ObjNo}
+use Rattle.move_laws.proofs.Readiness.ReadyParts.{ready_parts}
 
 -- Nothing is lacking in a state: no step of a live thread that waits for nothing needs what isn't there; the calls that come next are declared, and a
 -- thread that comes back is at an instruction that finds.
@@ -113,7 +114,7 @@ module _ (script : Script) (S : State) (shaped : IsShaped script) (rows : AreRow
         by : (able : Bool) → is_able script S t ≡ able → ⊥
         by true e =
             let able = both-true (is_ready script S t) (is_none (wanted_holder S.synchronization.nano t)) e in
-            let ready = both-true (not (is_waiting S t) && not (is_stopped S t)) (is_some (task_of script S t)) able.0 in
+            let some = (ready_parts script S t able.0).task in
             let gone = ap is_some none in cc
         by false e =
             let out : is_out S t ≡ true = ap (λ (b : Bool). b || is_out S t) (sym e) ∙ may in

@@ -273,7 +273,8 @@ module _ (script : Script) (S : State) (t : ObjNo) (old : ThreadRow) (here : thr
           let parts = and_parts (not row.dead) (row.place == old.sought_place) e in
           record {
             there = ap is_some at;
-            kind = λ r is. let same : row ≡ r = cc in was.kind r is (sym (ap (λ (z : ObjectRow). z.place) same) ∙ eqb-true row.place old.sought_place parts.1);
+            kind = λ r is. let same : row ≡ r = cc in
+                was.kind r is (sym (ap (λ (z : ObjectRow). z.place) same) ∙ eqb-true row.place old.sought_place parts.1);
           }
 
   pub return-course : (i : Instr) → Course script S t old i (Some part.Return) (return_of S t old i)

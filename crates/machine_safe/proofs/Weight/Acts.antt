@@ -38,7 +38,7 @@ use Rattle.machine.specs.Reaping.{burial_of}
 use Rattle.machine.specs.References.{kernel_holds, mutex_names, stage_holds, total}
 use Rattle.machine.specs.Rows.{first_of, object_of, owed_of, table_of, thread_of, without_first}
 use Rattle.machine.specs.Steps.{decision_of, decision_of_row, decision_where, return_of}
-use Rattle.machine.specs.Task.{by_stage, instruction, is_able, is_ready, is_stopped, is_wait, is_waiting, is_waiting_row, may_act, pay_or, return_or, task_of, task_of_row}
+use Rattle.machine.specs.Task.{by_stage, instruction, is_able, is_ready, is_wait, is_waiting_row, may_act, pay_or, return_or, task_of, task_of_row}
 use Rattle.machine.specs.ThreadCalls.{is_live}
 use Rattle.machine.specs.WellFormed.{AreRows, EachMayOwe, MayOwe, logon_names, weight}
 use Rattle.machine.specs.declared.decision.Decision.{Decision}
@@ -65,6 +65,7 @@ use Rattle.machine_safe.proofs.Weight.Lowers.{Lowered}
 use Rattle.machine_safe.proofs.Weight.Own.{Gives, gives-handle, gives-link, gives-logon, gives-message, gives-mutex, gives-server, gives-use}
 use Rattle.machine_safe.specs.Weight.{find_bit, mutexes_of, servers_of}
 use Rattle.machine_safe.proofs.Weight.Lighter.{gets-same, gets-swept, links_left-swept}
+use Rattle.move_laws.proofs.Readiness.ReadyParts.{ready_parts}
 
 module _ (script : Script) (S : State) (t : ObjNo) (row : ThreadRow) (rows : AreRows script S)
     (is : thread_of S t ≡ Some row) (doomed : row.stage ≡ Doomed) where
@@ -313,9 +314,8 @@ module _ (script : Script) (S : State) (t : ObjNo) (row : ThreadRow) (rows : Are
       let able = able-by (is_able script S t) (is_out S t) S.mode.shared (is_returning row.part) may
       (ap (λ (r : Option ThreadRow). S.mode.shared && is_returning (part_of r)) is) back in
       let parts = both (is_ready script S t) (is_none (wanted_holder S.synchronization.nano t)) able in
-      let ready = both (not (is_waiting S t) && not (is_stopped S t)) (is_some (task_of script S t)) parts.0 in
-      let calm = both (not (is_waiting S t)) (not (is_stopped S t)) ready.0 in
-      waits-not row.waiting (S.mode.shared && is_returning row.part) (sym (ap (λ (r : Option ThreadRow). not (is_waiting_row S.mode.shared r)) is) ∙ calm.0)
+      waits-not row.waiting (S.mode.shared && is_returning row.part)
+      (sym (ap (λ (r : Option ThreadRow). not (is_waiting_row S.mode.shared r)) is) ∙ (ready_parts script S t parts.0).waits)
 
   module _ (may : may_act script S t ≡ true) (finds : is_returning row.part ≡ true → finds_by_name (instruction script row) ≡ true) where
     dying : is_returning row.part ≡ false → IsDying script S t row

@@ -119,7 +119,8 @@ pub seeks-swept : (tables : List (List HandleSlot)) (threads : List (Option Thre
     → IsOver tables threads o → total (seeks p place) (set threads o None) ≡ total (seeks p place) threads
 seeks-swept tables threads o p place over =
     let moved = total-set (seeks p place) threads o None None (inside threads o over.row over.is) in
-    let back : (is_returning over.row.part && over.row.sought_place == place) ≡ false = ap (λ (b : Bool). b && over.row.sought_place == place) over.spent.going in
+    let back : (is_returning over.row.part && over.row.sought_place == place) ≡ false =
+    ap (λ (b : Bool). b && over.row.sought_place == place) over.spent.going in
     let was : seeks p place (get_or threads o None) ≡ 0 = ap (seeks p place) over.is
     ∙ if_not (is_returning over.row.part && over.row.sought_place == place) (same over.row.sought p) back in
     omega arith
