@@ -48,7 +48,7 @@ use Rattle.move_laws.proofs.Lists.Cases.{if_cases}
 use Rattle.move_laws.proofs.Numbers.Registers.{priority_small}
 use Rattle.move_laws.proofs.Holders.ThreadRows.{row-here}
 use Rattle.move_laws.proofs.RowLaws.Tables.{object_of_is}
-use Rattle.machine_laws.proofs.Fitting.Living.{handle_is_counted}
+use Rattle.machine_laws.proofs.Fitting.LiveObjects.{handle_is_counted}
 use Rattle.machine_laws.proofs.Fitting.Shared.{IsCheap}
 use Rattle.machine_laws.proofs.Fitting.Stepping.{at_instruction, is_there, FitsDecision, IsStepping, fits-nothing, fits-refuse, fits-use, at-with_row, serves_none, live-changed, stepping_live, MayEndStep, ends_here, last_step, ends_in}
 use Rattle.machine_laws.proofs.Fitting.Uncalled.{is_uncalled, stepping_uncalled}

@@ -42,7 +42,7 @@ use Rattle.move_laws.proofs.Lists.Totals.{inside}
 use Rattle.machine.specs.References.{count_of}
 use Rattle.machine_laws.proofs.Fitting.Finishing.{finishes}
 use Rattle.machine_laws.proofs.Fitting.KernelThreads.{fits-answer, fits-later, fits-look_kind, fits-unless}
-use Rattle.machine_laws.proofs.Fitting.Living.{alive_inside, use_is_alive}
+use Rattle.machine_laws.proofs.Fitting.LiveObjects.{alive_inside, use_is_alive}
 use Rattle.machine_laws.proofs.Fitting.Shared.{of_thread_handle}
 use Rattle.machine_laws.proofs.Fitting.Staying.{stay-finish, stay-perform}
 use Rattle.machine_laws.proofs.Fitting.Stepping.{FitsDecision, IsStepping, at-with_row, fits-answers, fits-handle, fits-nothing, fits-refuse, live-changed, live_thread, stepping_live, ends_here}

@@ -54,8 +54,8 @@ use Rattle.move_laws.proofs.Numbers.Registers.{send_small}
 use Rattle.move_laws.proofs.RowLaws.MessagesKept.{fewer-with_row}
 use Rattle.machine_laws.proofs.Fitting.Deaths.{not_logged, set_awaited}
 use Rattle.machine_laws.proofs.Fitting.KernelThreads.{fits-answer, fits-look_kind, fits-unless}
-use Rattle.machine_laws.proofs.Fitting.Living.{handle_is_counted, use_is_alive, thread_is_counted, use_is_counted}
-use Rattle.machine_laws.proofs.Fitting.Posting.{MayPost, open_session, posts, stay-post}
+use Rattle.machine_laws.proofs.Fitting.LiveObjects.{handle_is_counted, use_is_alive, thread_is_counted, use_is_counted}
+use Rattle.machine_laws.proofs.Fitting.SentMessages.{MayPost, open_session, posts, stay-post}
 use Rattle.machine_laws.proofs.Fitting.Servers.{owes_more}
 use Rattle.machine_laws.proofs.Fitting.Shared.{fits-seek, of_thread_handle}
 use Rattle.machine_laws.proofs.Fitting.Staying.{stay-perform, stays-lose, stays-requests, stays-go_on}

@@ -45,7 +45,7 @@ use Rattle.move_laws.proofs.Lists.Cases.{if_cases}
 use Rattle.move_laws.proofs.Numbers.Registers.{count_few}
 use Rattle.move_laws.proofs.RowLaws.Tables.{object_of_is}
 use Rattle.machine_laws.proofs.Fitting.Closing.{IsHandle, MayClose, closes, handle_of_process, handle_of_thread, stay-close}
-use Rattle.machine_laws.proofs.Fitting.Living.{use_is_counted}
+use Rattle.machine_laws.proofs.Fitting.LiveObjects.{use_is_counted}
 use Rattle.machine_laws.proofs.Fitting.KernelThreads.{fits-unless}
 use Rattle.machine_laws.proofs.Fitting.Stepping.{FitsDecision, FitsStep, IsStepping, answers_step, by_kinds, fits-handle, fits-nothing, fits-refuse, ends_here}
 use Rattle.machine_laws.proofs.Fitting.Staying.{stay-perform}
