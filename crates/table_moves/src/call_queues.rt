@@ -16,7 +16,7 @@ use std::alloc::Global;
 use std::marker::Model;
 use sym_base::NoMemory;
 
-/// The most calls that a script has, with the burials of its threads.
+/// No call of a script has this number, or a greater one.
 const NUMBERS: usize = 256;
 
 /// The queues of deferred function calls, and how many there are beside the immediate one. A contract sees their rows.
@@ -40,6 +40,7 @@ impl Model for CallQueues {
 
 impl CallQueues {
     /// Nothing is queued, in the supervisor's queue and in each declared one. Each thread has a burial.
+    #[tactic(auto, using(crate::proofs::Places::few_places))]
     pub fn new(alloc: Global, script: &Script) -> Result<CallQueues, NoMemory>
         requires { IsShaped script.now }
         ensures { IfOk result (λ queues. queues ≡ calls_of script.now) }
