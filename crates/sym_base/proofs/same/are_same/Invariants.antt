@@ -1,6 +1,6 @@
 use Rattle.std.proofs.Common.{◌≡◌, drop}
 use Rattle.std.specs.Str.{bytes_eq}
-use Rattle.script_words.proofs.field.are_same.Given as goal
+use Rattle.sym_base.proofs.same.are_same.Given as goal
 
 -- the bytes that are left decide
 abbrev pub invariant-loop-i : goal.invariant-loop-i
