@@ -42,7 +42,7 @@ use Rattle.machine.specs.Interrupts.{immediate, immediate_plan, interrupt, super
 use Rattle.machine.specs.Moves.{moved, perform}
 use Rattle.machine.specs.References.{total}
 use Rattle.machine.specs.Rows.{first_of, owed_of, thread_of, without_first}
-use Rattle.machine.specs.Task.{by_stage, instruction, is_able, is_ready, is_stopped, is_waiting, may_act, pay_or, return_or, task_of, task_of_row}
+use Rattle.machine.specs.Task.{by_stage, instruction, is_able, is_ready, may_act, pay_or, return_or, task_of, task_of_row}
 use Rattle.machine.specs.Out.{is_out, is_returning, part_of}
 use Rattle.machine.specs.Transition.{act}
 use Rattle.machine.specs.WellFormed.{AreRows, is_spent}
@@ -58,6 +58,7 @@ use Rattle.machine_safe.proofs.Deaths.OnceEach.{Cleans, after-cleaning, cleans, 
 use Rattle.machine_safe.proofs.Deaths.Rows.{row_bit}
 use Rattle.machine_safe.proofs.Deaths.Runs.{dies-entry}
 use Rattle.machine.specs.EntryWords.{is_clean}
+use Rattle.move_laws.proofs.Readiness.ReadyParts.{ready_parts}
 
 -- only the thread that acts comes to owe more, and only by a move that owes
 abbrev OwesNoMore : ObjNo → ObjNo → ℕ → Type 0
@@ -216,9 +217,8 @@ no-action script S t (Thread u) rows h able = by (u.0 == t.0) refl
         let may : may_act script S t ≡ true = subst (λ (x : ObjNo). may_act script S x ≡ true) same able in
         let parts = both (is_ready script S t) (is_none (wanted_holder S.synchronization.nano t))
         (able_or (is_able script S t) (is_out S t) (not-out script S t rows h) may) in
-        let ready = both (not (is_waiting S t) && not (is_stopped S t)) (is_some (task_of script S t)) parts.0 in
         let none = no-task script S t rows h in
-        let some = ready.1 in absurd (cc)
+        let some = (ready_parts script S t parts.0).task in absurd (cc)
 no-action script S t (Irq k) rows h able = refl
 no-action script S t _ rows h able = refl
 

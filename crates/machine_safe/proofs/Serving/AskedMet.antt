@@ -1,7 +1,7 @@
 -- What a thread's next step asks of the state stays there until it makes that step: a status that isn't pending, the fast mutex that it wants, the kind
 -- of what it uses or found, and the server that it owns and the message for which it waited.
 use Rattle.machine.specs.Kept.{dies}
-use Rattle.std.proofs.Common.{Bool, List, None, Option, Some, ap, arith, false, get_or, get_or-set_other, inl, inr, refl, subst, sym, true, ℕ, ◌<◌, ◌∙◌, ◌≡◌, ◌⊎◌, ◌%◌}
+use Rattle.std.proofs.Common.{Bool, List, None, Option, Some, ap, arith, false, get_or, get_or-set_other, inl, inr, refl, subst, sym, true, ℕ, ◌<◌, ◌∙◌, ◌≡◌, ◌⊎◌}
 use Rattle.std.specs.Prelude.{is_some, option_map}
 use Rattle.sym_base.specs.declared.kind.Kind.{Kind}
 use Rattle.sym_base.specs.declared.number.ObjNo.{ObjNo}
@@ -28,7 +28,6 @@ use Rattle.state_rows.proofs.SoundChanges.{set_item}
 use Rattle.machine.specs.Boot.{boot_in}
 use Rattle.machine.specs.History.{next}
 use Rattle.machine.specs.Moves.{moved, perform, threads_closed, unlinked}
-use Rattle.machine.specs.Out.{found_object}
 use Rattle.machine.specs.References.{total}
 use Rattle.machine.specs.Steps.{return_of, step_of}
 use Rattle.machine.specs.Task.{instruction}
@@ -72,7 +71,7 @@ takes-receiving (instr.Receive x y) (Some part.Done) e = refl
 takes-receiving i p e = absurd (cc)
 
 pub met-kept : (S T : State) (u : ObjNo) (old row : ThreadRow) (i : Instr) → old.part ≡ row.part → old.uses ≡ row.uses
-    → old.found ≡ row.found → old.sought ≡ row.sought
+    → old.sought ≡ row.sought → old.sought_place ≡ row.sought_place
     → ((s : ℕ) → IsUnset S.synchronization.requests u s → IsUnset T.synchronization.requests u s)
     → (is_some (want_of S.synchronization.nano u) ≡ true → is_some (want_of T.synchronization.nano u) ≡ true)
     → ((k : Kind) (o : ObjNo) → old.uses ≡ Some o → IsOfKind S.references.objects k o → IsOfKind T.references.objects k o)
@@ -81,14 +80,14 @@ pub met-kept : (S T : State) (u : ObjNo) (old row : ThreadRow) (i : Instr) → o
     → owner_of T.serving.servers o ≡ Some u)
     → ((o : ObjNo) → receiving (Some i) old.part ≡ true → old.uses ≡ Some o → owner_of S.serving.servers o ≡ Some u
     → HasCome S old o → HasCome T row o) → Met S u old i old.part → Met T u row i row.part
-met-kept S T u old row i part uses found sought unset want kinds finds owned came met = record {
+met-kept S T u old row i part uses sought place unset want kinds finds owned came met = record {
   unset = λ s is. unset s (met.unset s (ap (sets_status i) part ∙ is));
   wanted = λ is. want (met.wanted (ap (wants_at i) part ∙ is));
   used = λ k o is used. kinds k o (uses ∙ used) (met.used k o (ap (kind_used i) part ∙ is) (uses ∙ used));
   found =
-      λ k is. subst (λ (n : ℕ). FoundOf T k n (found_object row)) sought
-      (subst (FoundOf T k old.sought) (ap (λ (n : ℕ). record { 0 = n % 65536 }) found)
-      (finds k old.sought (found_object old) (met.found k (ap (kind_found i) part ∙ is))));
+      λ k is. subst (λ (n : ℕ). FoundOf T k n row.sought) place
+      (subst (FoundOf T k old.sought_place) sought
+      (finds k old.sought_place old.sought (met.found k (ap (kind_found i) part ∙ is))));
   owned = λ o is used. let receives = ap (receiving (Some i)) part ∙ is in owned o receives (uses ∙ used) (met.owned o receives (uses ∙ used));
   came = λ o is used.
       let takes = ap (takes_at i) part ∙ is in
@@ -126,16 +125,17 @@ come-later S T old row o waits next shut (inr there) = inr (ap is_some next ∙ 
 met-paid : (script : Script) (S : State) (t : ObjNo) (what : Owed) (u : ObjNo) (old row : ThreadRow) (i : Instr)
     → AreRows script S → SweepsDead S what
     → thread_of S u ≡ Some old → thread_of (moved t (Pay what) S) u ≡ Some row → old.part ≡ row.part
-    → old.uses ≡ row.uses → old.found ≡ row.found → old.sought ≡ row.sought → Met S u old i old.part → Met (moved t (Pay what) S) u row i row.part
-met-paid script S t (duty.Close h x) u old row i rows dead was is part uses found sought met =
-    met-kept S (moved t (Pay (duty.Close h x)) S) u old row i part uses found sought
+    → old.uses ≡ row.uses → old.sought ≡ row.sought → old.sought_place ≡ row.sought_place → Met S u old i old.part
+    → Met (moved t (Pay what) S) u row i row.part
+met-paid script S t (duty.Close h x) u old row i rows dead was is part uses sought place met =
+    met-kept S (moved t (Pay (duty.Close h x)) S) u old row i part uses sought place
     (λ s was. record { done = was.done; free = was.free }) (λ is. is)
     (λ k o used was. kind-closed (dies S x) x S.references.objects k o was)
     (λ k place o was. was-paid S t (duty.Close h x) k place o was)
     (λ o receives used own. own) (λ o receives used own come. come-later S (moved t (Pay (duty.Close h x)) S) old row o
     (sym (ap awaited_by was) ∙ paid-awaited S t (duty.Close h x) u row is) refl refl come) met
-met-paid script S t (duty.Sweep x) u old row i rows dead was is part uses found sought met =
-    met-kept S (moved t (Pay (duty.Sweep x)) S) u old row i part uses found sought
+met-paid script S t (duty.Sweep x) u old row i rows dead was is part uses sought place met =
+    met-kept S (moved t (Pay (duty.Sweep x)) S) u old row i part uses sought place
     (λ s was. record { done = was.done; free = was.free }) (λ is. is)
     (λ k o used was. kind-swept S.references.objects x.0 k o (apart o used) was)
     (λ k place o was. was-paid S t (duty.Sweep x) k place o was)
@@ -225,7 +225,7 @@ met-fact script = record {
   carried =
       λ S t ms rows has u row is c passes was. met-by script S (perform t ms S) u c.mid.old row
       (same-instruction script c.mid.old row c.mid.role (sym c.mid.place))
-      (λ i met. met-kept S (perform t ms S) u c.mid.old row i c.mid.part c.mid.uses c.mid.found c.mid.sought
+      (λ i met. met-kept S (perform t ms S) u c.mid.old row i c.mid.part c.mid.uses c.mid.sought c.mid.sought_place
       (λ s unset. unset-each script S t ms (passes.on, S, None) u s passes.goes.each passes.proper passes.apart unset)
       (λ is. want-each script S t ms (passes.on, S, None) u passes.goes.each passes.proper passes.apart passes.undoomed is)
       (λ k o used was. kind-each script S t ms k o passes.goes.each was)
@@ -235,7 +235,7 @@ met-fact script = record {
   paid =
       λ S t what rows dead u row is mid was. met-by script S (moved t (Pay what) S) u mid.old row
       (same-instruction script mid.old row mid.role (sym mid.place))
-      (λ i met. met-paid script S t what u mid.old row i rows dead mid.was is mid.part mid.uses mid.found mid.sought met) was;
+      (λ i met. met-paid script S t what u mid.old row i rows dead mid.was is mid.part mid.uses mid.sought mid.sought_place met) was;
 }
 
 -- what a step asks is asked of a later step

@@ -89,7 +89,7 @@ module _ (script : Script) (S : State) (t : ObjNo) (shaped : IsShaped script) (r
     -- one that dies
     proceeds-dying : (has : List Holding) → holdings S t row ≡ has → row.stage ≡ Doomed → is_returning row.part ≡ false
         → Proceeds (decision_of_task script S t row (dying_task has))
-    proceeds-dying [] e doomed going = properly (proper-clean script S t row shaped (rows.references.threads.rows t.0 row here).declared)
+    proceeds-dying [] e doomed going = properly (proper-clean script S t row)
     proceeds-dying (what ∷ rest) e doomed going = properly
         (proper-give script S rows t row what (fits-give_up {script = script} {S = S} {t = t} {row = row} what rest
         (record { rows = rows; is = here; doomed = doomed; waits = awake script S t row here may going; going = going })

@@ -45,6 +45,7 @@ pub record WasMidway (threads : List (Option ThreadRow)) (k : ℕ) (row : Thread
   pub part : old.part ≡ row.part
   pub found : old.found ≡ row.found
   pub sought : old.sought ≡ row.sought
+  pub sought_place : old.sought_place ≡ row.sought_place
   pub uses : old.uses ≡ row.uses
   pub live : row.stage ≡ Live → old.stage ≡ Live
 
@@ -55,11 +56,23 @@ record KeepsMidway (f : ThreadRow → ThreadRow) : Type 0 where
   pub part : (row : ThreadRow) → (f row).part ≡ row.part
   pub found : (row : ThreadRow) → (f row).found ≡ row.found
   pub sought : (row : ThreadRow) → (f row).sought ≡ row.sought
+  pub sought_place : (row : ThreadRow) → (f row).sought_place ≡ row.sought_place
   pub uses : (row : ThreadRow) → (f row).uses ≡ row.uses
   pub live : (row : ThreadRow) → (f row).stage ≡ Live → row.stage ≡ Live
 
 midway-same : (threads : List (Option ThreadRow)) (k : ℕ) (row : ThreadRow) → get_or threads k None ≡ Some row → WasMidway threads k row
-midway-same threads k row is = record { old = row; was = is; role = refl; place = refl; part = refl; found = refl; sought = refl; uses = refl; live = λ e. e }
+midway-same threads k row is = record {
+  old = row;
+  was = is;
+  role = refl;
+  place = refl;
+  part = refl;
+  found = refl;
+  sought = refl;
+  sought_place = refl;
+  uses = refl;
+  live = λ e. e;
+}
 
 midway-with : (threads : List (Option ThreadRow)) (u : ObjNo) (f : ThreadRow → ThreadRow) → KeepsMidway f
     → (k : ℕ) (row : ThreadRow) → get_or (with_row threads u f) k None ≡ Some row → WasMidway threads k row
@@ -73,6 +86,7 @@ midway-with threads u f keeps k row is =
       part = sym (keeps.part old);
       found = sym (keeps.found old);
       sought = sym (keeps.sought old);
+      sought_place = sym (keeps.sought_place old);
       uses = sym (keeps.uses old);
       live = keeps.live old;
     })
@@ -109,6 +123,7 @@ midway-closed true o threads k row is =
       part = λ r. refl;
       found = λ r. refl;
       sought = λ r. refl;
+      sought_place = λ r. refl;
       uses = λ r. refl;
       live = λ r e. e;
     }) k row is
@@ -123,6 +138,7 @@ midway-dies threads (Note u exit) k row is =
       part = λ r. refl;
       found = λ r. refl;
       sought = λ r. refl;
+      sought_place = λ r. refl;
       uses = λ r. refl;
       live = λ r e. e;
     }) k row is
@@ -133,6 +149,7 @@ midway-dies threads (Doom u exit) k row is =
       part = λ r. refl;
       found = λ r. refl;
       sought = λ r. refl;
+      sought_place = λ r. refl;
       uses = λ r. refl;
       live = λ r e. absurd (cc);
     }) k row is
@@ -143,6 +160,7 @@ midway-dies threads (Clean u) k row is =
       part = λ r. refl;
       found = λ r. refl;
       sought = λ r. refl;
+      sought_place = λ r. refl;
       uses = λ r. refl;
       live = λ r e. absurd (cc);
     }) k row is
@@ -153,6 +171,7 @@ midway-dies threads (Bury u) k row is =
       part = λ r. refl;
       found = λ r. refl;
       sought = λ r. refl;
+      sought_place = λ r. refl;
       uses = λ r. refl;
       live = λ r e. absurd (cc);
     }) k row is
@@ -166,6 +185,7 @@ midway-then S T k row later first = record {
   part = first.part ∙ later.part;
   found = first.found ∙ later.found;
   sought = first.sought ∙ later.sought;
+  sought_place = first.sought_place ∙ later.sought_place;
   uses = first.uses ∙ later.uses;
   live = λ e. first.live (later.live e);
 }
@@ -205,6 +225,7 @@ midway-move script S t (Write u x value) fits k row stays later is =
       part = λ r. refl;
       found = λ r. refl;
       sought = λ r. refl;
+      sought_place = λ r. refl;
       uses = λ r. refl;
       live = λ r e. e;
     }) k row is
@@ -216,6 +237,7 @@ midway-move script S t (WriteMessage u y number) fits k row stays later is =
       part = λ r. refl;
       found = λ r. refl;
       sought = λ r. refl;
+      sought_place = λ r. refl;
       uses = λ r. refl;
       live = λ r e. e;
     }) k row is
@@ -229,6 +251,7 @@ midway-move script S t (Wait u what) fits k row stays later is =
       part = λ r. refl;
       found = λ r. refl;
       sought = λ r. refl;
+      sought_place = λ r. refl;
       uses = λ r. refl;
       live = λ r e. e;
     }) k row is
@@ -240,6 +263,7 @@ midway-move script S t (Wake u) fits k row stays later is =
       part = λ r. refl;
       found = λ r. refl;
       sought = λ r. refl;
+      sought_place = λ r. refl;
       uses = λ r. refl;
       live = λ r e. e;
     }) k row is
@@ -251,6 +275,7 @@ midway-move script S t (SetPriority u priority) fits k row stays later is =
       part = λ r. refl;
       found = λ r. refl;
       sought = λ r. refl;
+      sought_place = λ r. refl;
       uses = λ r. refl;
       live = λ r e. e;
     }) k row is

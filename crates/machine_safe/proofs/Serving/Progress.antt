@@ -21,7 +21,7 @@ use Rattle.machine.specs.Reaping.{finish_message, give_up}
 use Rattle.machine.specs.Rows.{thread_of}
 use Rattle.machine.specs.SharedRun.{is_return}
 use Rattle.machine.specs.Steps.{decision_of, pay, step_of}
-use Rattle.machine.specs.Task.{instruction, is_able, is_ready, is_stopped, is_waiting, may_act, next_call, task_of}
+use Rattle.machine.specs.Task.{instruction, is_able, is_ready, may_act, next_call, task_of}
 use Rattle.machine.specs.Transition.{act}
 use Rattle.machine.specs.WellFormed.{AreRows}
 use Rattle.machine.specs.declared.decision.Decision.{Decision}
@@ -56,6 +56,7 @@ use Rattle.std.proofs.Common.{Bool, None, Option, Some, ap, false, inl, inr, ref
 use Rattle.std.specs.Prelude.{is_none, is_some, nat_lt, slice_get, ◌&&◌, ◌||◌}
 use Rattle.sym_base.specs.declared.number.ObjNo.{ObjNo}
 use Rattle.std.proofs.lemmas.Bool.{and_parts}
+use Rattle.move_laws.proofs.Readiness.ReadyParts.{ready_parts}
 
 -- Nothing is lacking in a state: no step of a live thread that waits for nothing needs what isn't there; the calls that come next are declared, and a
 -- thread that comes back is at an instruction that finds.
@@ -108,7 +109,7 @@ module _ (script : Script) (S : State) (shaped : IsShaped script) (rows : AreRow
         by : (able : Bool) → is_able script S t ≡ able → ⊥
         by true e =
             let able = and_parts (is_ready script S t) (is_none (wanted_holder S.synchronization.nano t)) e in
-            let ready = and_parts (not (is_waiting S t) && not (is_stopped S t)) (is_some (task_of script S t)) able.0 in
+            let some = (ready_parts script S t able.0).task in
             let gone = ap is_some none in cc
         by false e =
             let out : is_out S t ≡ true = ap (λ (b : Bool). b || is_out S t) (sym e) ∙ may in

@@ -17,7 +17,7 @@ use Rattle.state_rows.specs.declared.thread.ThreadRow.{ThreadRow}
 use Rattle.machine.specs.Bodies.{decision_by}
 use Rattle.machine.specs.Find.{is_open, miss, return_to}
 use Rattle.machine.specs.Interrupts.{immediate_plan, supervisor}
-use Rattle.machine.specs.Out.{found_object, is_returning}
+use Rattle.machine.specs.Out.{is_returning}
 use Rattle.machine.specs.Rows.{object_of, thread_of}
 use Rattle.machine.specs.Reaping.{give_up}
 use Rattle.machine.specs.Steps.{decision_of, pay, return_of, step_of}
@@ -118,7 +118,7 @@ module _ (script : Script) (S : State) (shaped : IsShaped script) (rows : AreRow
     missed w o false = (tt, tt)
 
     returned : (old : ThreadRow) (w : Word) (to : Part) → Proper (return_to S t old w to)
-    returned old w to = if_cases Proper (is_open old.sought (object_of S (found_object old))) _ _ (λ _. (tt, tt)) (λ _. missed w (found_object old) (is_live old.stage))
+    returned old w to = if_cases Proper (is_open old.sought_place (object_of S old.sought)) _ _ (λ _. (tt, tt)) (λ _. missed w old.sought (is_live old.stage))
 
     return-proper : (old : ThreadRow) (i : Instr) → Proper (return_of S t old i)
     return-proper old (instr.Open kind name x) = returned old word.Open part.Do

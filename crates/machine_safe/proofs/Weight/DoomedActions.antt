@@ -30,14 +30,14 @@ use Rattle.machine.specs.Holdings.{closing_holdings, held_handles, held_logons, 
 use Rattle.machine.specs.Kept.{dies}
 use Rattle.machine.specs.LogonMoves.{logons_on}
 use Rattle.machine.specs.Moves.{link_of, link_of_row, link_or, moved, owed_by_close, perform, with_missed, with_opened}
-use Rattle.machine.specs.Out.{found_object, is_out, is_returning, part_of}
+use Rattle.machine.specs.Out.{is_out, is_returning, part_of}
 use Rattle.state_rows.specs.Deferred.{queue_of}
 use Rattle.machine.specs.declared.deferred_move.DeferredMove.TheVariants.{Add}
 use Rattle.machine.specs.Reaping.{burial_of}
 use Rattle.machine.specs.References.{kernel_holds, mutex_names, stage_holds, total}
 use Rattle.machine.specs.Rows.{first_of, object_of, owed_of, table_of, thread_of, without_first}
 use Rattle.machine.specs.Steps.{decision_of, decision_of_row, decision_where, return_of}
-use Rattle.machine.specs.Task.{by_stage, instruction, is_able, is_ready, is_stopped, is_waiting, is_waiting_row, may_act, pay_or, return_or, task_of, task_of_row}
+use Rattle.machine.specs.Task.{by_stage, instruction, is_able, is_ready, is_waiting_row, may_act, pay_or, return_or, task_of, task_of_row}
 use Rattle.machine.specs.ThreadCalls.{is_live}
 use Rattle.machine.specs.WellFormed.{AreRows, EachMayOwe, MayOwe, logon_names, weight}
 use Rattle.machine.specs.declared.decision.Decision.{Decision}
@@ -65,6 +65,7 @@ use Rattle.machine_safe.proofs.Weight.Own.{Gives, gives-handle, gives-link, give
 use Rattle.machine_safe.specs.Weight.{find_bit, mutexes_of, servers_of}
 use Rattle.machine_safe.proofs.Weight.Lighter.{gets-same, gets-swept, links_left-swept}
 use Rattle.machine_laws.proofs.Fitting.Actions.{waits_not, able_by}
+use Rattle.move_laws.proofs.Readiness.ReadyParts.{ready_parts}
 
 module _ (script : Script) (S : State) (t : ObjNo) (row : ThreadRow) (rows : AreRows script S)
     (is : thread_of S t ≡ Some row) (doomed : row.stage ≡ Doomed) where
@@ -286,12 +287,12 @@ module _ (script : Script) (S : State) (t : ObjNo) (row : ThreadRow) (rows : Are
 
   return-lowers : (w : Word) (to : Part) → is_returning row.part ≡ true → is_returning (Some to) ≡ false → Does (return_to S t row w to)
   return-lowers w to returns back =
-      if_cases Does (is_open row.sought (object_of S (found_object row))) _ _ (λ _. open-lowers (found_object row) to returns back)
+      if_cases Does (is_open row.sought_place (object_of S row.sought)) _ _ (λ _. open-lowers row.sought to returns back)
       (λ _. missed (is_live row.stage) (ap is_live doomed))
     where
-      missed : (live : Bool) → live ≡ false → Does (miss t w (found_object row) live)
+      missed : (live : Bool) → live ≡ false → Does (miss t w row.sought live)
       missed true e = absurd (cc)
-      missed false e = miss-lowers (found_object row) returns
+      missed false e = miss-lowers row.sought returns
 
   returns-lowers : (i : Instr) → finds_by_name (Some i) ≡ true → is_returning row.part ≡ true → Does (return_of S t row i)
   returns-lowers (instr.Open kind name x) finds returns = return-lowers word.Open part.Do returns refl
@@ -304,9 +305,8 @@ module _ (script : Script) (S : State) (t : ObjNo) (row : ThreadRow) (rows : Are
       let able = able_by (is_able script S t) (is_out S t) S.mode.shared (is_returning row.part) may
       (ap (λ (r : Option ThreadRow). S.mode.shared && is_returning (part_of r)) is) back in
       let parts = both (is_ready script S t) (is_none (wanted_holder S.synchronization.nano t)) able in
-      let ready = both (not (is_waiting S t) && not (is_stopped S t)) (is_some (task_of script S t)) parts.0 in
-      let calm = both (not (is_waiting S t)) (not (is_stopped S t)) ready.0 in
-      waits_not row.waiting (S.mode.shared && is_returning row.part) (sym (ap (λ (r : Option ThreadRow). not (is_waiting_row S.mode.shared r)) is) ∙ calm.0)
+      waits_not row.waiting (S.mode.shared && is_returning row.part)
+      (sym (ap (λ (r : Option ThreadRow). not (is_waiting_row S.mode.shared r)) is) ∙ (ready_parts script S t parts.0).waits)
 
   module _ (may : may_act script S t ≡ true) (finds : is_returning row.part ≡ true → finds_by_name (instruction script row) ≡ true) where
     dying : is_returning row.part ≡ false → IsDying script S t row
