@@ -64,7 +64,7 @@ impl<'a, W: RefWords + Drop> Death<'a, W> {
 
     /// The burial that is the next call of an able thread's queue: the call leaves the queue, and the cleaned thread is buried
     /// whose burial it is.
-    pub fn bury(&mut self, script: &Script, t: ThreadNo, dfc: u8, effects: &mut Effects)
+    pub fn bury(&mut self, script: &Script, t: ThreadNo, dfc: usize, effects: &mut Effects)
         requires runs { RunsScript script.now self.old.core.now }
         requires choice { MayChoose t self.old.core.now.notes self.old.core.now.state }
         requires may { MayBury script.now self.old.core.now.state t dfc }

@@ -11,7 +11,7 @@ use Rattle.machine.specs.Interrupts.{immediate, immediate_plan, interrupt, super
 use Rattle.machine.specs.Out.{is_out, is_returning, part_of}
 use Rattle.machine.specs.Rows.{thread_of}
 use Rattle.machine.specs.Steps.{decision_of_row, decision_of_task, decision_where}
-use Rattle.machine.specs.Task.{is_able, is_ready, is_stopped, is_waiting, may_act, task_of, task_of_row}
+use Rattle.machine.specs.Task.{is_able, is_ready, is_stopped, is_unspent_row, is_waiting, may_act, task_of}
 use Rattle.machine.specs.Transition.{act}
 use Rattle.machine.specs.WellFormed.{AreRows}
 use Rattle.move_laws.proofs.Lists.Totals.{inside}
@@ -86,10 +86,8 @@ or_of false b h none = h
 
 none-able : (script : Script) (S : State) (t : ObjNo) → thread_of S t ≡ None → is_able script S t ≡ false
 none-able script S t none =
-    let task : is_some (task_of script S t) ≡ false = ap (λ (row : Option ThreadRow). is_some (task_of_row script S t row)) none in
     let ready : is_ready script S t ≡ false = ap
-    (λ (some : Bool). not (is_waiting S t) && not (is_stopped S t) && some) task
-    ∙ and_none (not (is_waiting S t) && not (is_stopped S t)) in
+    (λ (row : Option ThreadRow). is_unspent_row row && not (is_waiting S t) && not (is_stopped S t) && is_some (task_of script S t)) none in
     by_test {P = is_able script S t ≡ false} (is_able script S t)
     (λ is. let both_are = both (is_ready script S t) _ is in let bad : is_ready script S t ≡ true = both_are.0 in absurd (cc))
     (λ isnt. isnt)

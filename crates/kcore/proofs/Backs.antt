@@ -26,7 +26,7 @@ use Rattle.machine.specs.declared.state.State.{State}
 use Rattle.machine.specs.Bodies.{decision_by, run_dfc, run_idfc, step_of_body}
 use Rattle.machine.specs.Find.{is_open, miss, return_to}
 use Rattle.machine.specs.History.{keeping}
-use Rattle.machine.specs.Out.{found_object, seeks}
+use Rattle.machine.specs.Out.{seeks}
 use Rattle.machine.specs.References.{total}
 use Rattle.machine.specs.Rows.{object_of}
 use Rattle.machine.specs.Steps.{decision_of}
@@ -72,10 +72,10 @@ none_held rows p o stands shut held = by (slice_index_or rows held.0 None) refl
 -- a return's step tells that it is one, and no body's does
 return_step : (S : State) (t : ObjNo) (row : ThreadRow) (word : Word) (p : Part) → (return_to S t row word p).step ≡ Of word part.Return
 return_step S t row word p =
-    if_cases (λ (d : Decision). d.step ≡ Of word part.Return) (is_open row.sought (object_of S (found_object row))) _ _
+    if_cases (λ (d : Decision). d.step ≡ Of word part.Return) (is_open row.sought_place (object_of S row.sought)) _ _
     (λ _. refl) (λ _. missed (is_live row.stage))
   where
-    missed : (live : Bool) → (miss t word (found_object row) live).step ≡ Of word part.Return
+    missed : (live : Bool) → (miss t word row.sought live).step ≡ Of word part.Return
     missed true = refl
     missed false = refl
 
@@ -102,41 +102,41 @@ return_decided script S t row word p decision (Some body) is returns =
     absurd (body_apart script body word (ap (λ (d : Decision). d.step) (is ∙ returns) ∙ return_step S t row word p))
 
 -- its moves: it opens what is alive and has the place that it found, or opens nothing
-pub opens : (script : Script) (S : State) (t : ObjNo) (p : ℕ) (object : ObjNo) (h : ReturnsTo script S t p) → object ≡ found_object h.back.row
+pub opens : (script : Script) (S : State) (t : ObjNo) (p : ℕ) (object : ObjNo) (h : ReturnsTo script S t p) → object ≡ h.back.row.sought
     → is_open p (object_of S object) ≡ true → (decision_of script S t).moves ≡ Open t object h.part ∷ []
 opens script S t p object h is opened =
     let row = h.back.row in
-    let here : is_open row.sought (object_of S (found_object row)) ≡ true =
-    ap (λ (n : ℕ). is_open n (object_of S (found_object row))) h.sought
+    let here : is_open row.sought_place (object_of S row.sought) ≡ true =
+    ap (λ (n : ℕ). is_open n (object_of S row.sought)) h.sought
     ∙ ap (λ (x : ObjNo). is_open p (object_of S x)) (sym is)
     ∙ opened in
     ap (λ (d : Decision). d.moves) h.decides
-    ∙ if_cases (λ (d : Decision). d.moves ≡ Open t (found_object row) h.part ∷ [])
-    (is_open row.sought (object_of S (found_object row))) _ _ (λ _. refl) (λ shut. absurd (cc))
+    ∙ if_cases (λ (d : Decision). d.moves ≡ Open t row.sought h.part ∷ [])
+    (is_open row.sought_place (object_of S row.sought)) _ _ (λ _. refl) (λ shut. absurd (cc))
     ∙ ap (λ (x : ObjNo). Open t x h.part ∷ []) (sym is)
 
-pub opens_nothing : (script : Script) (S : State) (t : ObjNo) (p : ℕ) (object : ObjNo) (h : ReturnsTo script S t p) → object ≡ found_object h.back.row
+pub opens_nothing : (script : Script) (S : State) (t : ObjNo) (p : ℕ) (object : ObjNo) (h : ReturnsTo script S t p) → object ≡ h.back.row.sought
     → is_open p (object_of S object) ≡ false → total opening_bit (decision_of script S t).moves ≡ 0
 opens_nothing script S t p object h is shut =
     let row = h.back.row in
-    let here : is_open row.sought (object_of S (found_object row)) ≡ false =
-    ap (λ (n : ℕ). is_open n (object_of S (found_object row))) h.sought
+    let here : is_open row.sought_place (object_of S row.sought) ≡ false =
+    ap (λ (n : ℕ). is_open n (object_of S row.sought)) h.sought
     ∙ ap (λ (x : ObjNo). is_open p (object_of S x)) (sym is)
     ∙ shut in
     ap (λ (d : Decision). total opening_bit d.moves) h.decides
-    ∙ if_cases (λ (d : Decision). total opening_bit d.moves ≡ 0) (is_open row.sought (object_of S (found_object row))) _ _
+    ∙ if_cases (λ (d : Decision). total opening_bit d.moves ≡ 0) (is_open row.sought_place (object_of S row.sought)) _ _
     (λ opened. absurd (cc)) (λ _. missed (is_live row.stage))
   where
-    missed : (live : Bool) → total opening_bit (miss t h.word (found_object h.back.row) live).moves ≡ 0
+    missed : (live : Bool) → total opening_bit (miss t h.word h.back.row.sought live).moves ≡ 0
     missed true = refl
     missed false = refl
 
 -- an object of the place that a thread found has the number that it found
 pub stands-at : (script : Script) (S : State) (t : ObjNo) (p : ℕ) (object : ObjNo) → AreRows script S → (h : ReturnsTo script S t p)
-    → object ≡ found_object h.back.row → StandsAt S.references.objects p object.0
+    → object ≡ h.back.row.sought → StandsAt S.references.objects p object.0
 stands-at script S t p object rows h is k row at place =
     let one = seeks-one S t h.found h.back in
-    let most = total_any (seeks h.found h.back.row.sought) S.references.threads t.0 None refl in
+    let most = total_any (seeks h.found h.back.row.sought_place) S.references.threads t.0 None refl in
     let here : 0 < total (seeks h.found row.place) S.references.threads =
     subst (λ (n : ℕ). 0 < total (seeks h.found n) S.references.threads) (h.sought ∙ sym place) (omega arith) in
     rows.references.places.found h.found k row at here ∙ ap (λ (x : ObjNo). x.0) (sym h.back.found ∙ sym is)
@@ -167,7 +167,7 @@ made-like script t d e a b new effects state ready same made = record {
 
 -- what was decided opens the note's object
 pub open-moves : (script : Script) (S : State) (t : ObjNo) (p : ℕ) (object : ObjNo) (q : Part) (decision : Decision)
-    (h : ReturnsTo script S t p) → object ≡ found_object h.back.row → is_open p (object_of S object) ≡ true
+    (h : ReturnsTo script S t p) → object ≡ h.back.row.sought → is_open p (object_of S object) ≡ true
     → decision ≡ decision_of script S t → q ≡ part_in decision.moves → decision.moves ≡ Open t object q ∷ []
 open-moves script S t p object q decision h number opened is parts =
     let moves : decision.moves ≡ Open t object h.part ∷ [] = ap (λ (d : Decision). d.moves) is ∙ opens script S t p object h number opened in
@@ -183,7 +183,7 @@ open-runs script S t object q decision shaped rows is moves =
 
 -- what was decided opens nothing, if that is gone
 pub miss-goes : (script : Script) (S : State) (t : ObjNo) (p : ℕ) (object : ObjNo) (decision : Decision) → IsShaped script → AreRows script S
-    → (h : ReturnsTo script S t p) → object ≡ found_object h.back.row → is_open p (object_of S object) ≡ false
+    → (h : ReturnsTo script S t p) → object ≡ h.back.row.sought → is_open p (object_of S object) ≡ false
     → decision ≡ decision_of script S t → ActionGoes script t decision.moves S
 miss-goes script S t p object decision shaped rows h number shut is =
     subst (λ (d : Decision). ActionGoes script t d.moves S) (sym is)

@@ -20,7 +20,7 @@ use Rattle.machine.specs.FinalRows.{final_row, rows_from, rows_of, IsNextRow}
 use Rattle.machine.specs.History.{after_in, IsLegalIn}
 use Rattle.machine.specs.Out.{is_returning, part_of}
 use Rattle.machine.specs.Rows.{thread_of}
-use Rattle.machine.specs.Task.{is_able, is_stopped, is_wait, is_waiting_row, task_of}
+use Rattle.machine.specs.Task.{is_able, is_stopped, is_unspent_row, is_wait, is_waiting_row, task_of}
 use Rattle.machine_safe.proofs.FindsCounted.{finds-counted}
 use Rattle.kernel_tables.specs.Choosing.{sharing}
 use Rattle.kernel_tables.specs.CoreView.{CoreView}
@@ -90,7 +90,7 @@ waiting-same (Some row) a b back = none a ∙ sym (none b)
 pub able-at-boot : (script : Script) (a b : Bool) (t : ObjNo) → IsWellFormed script → is_able script (boot_in a script) t ≡ is_able script (boot_in b script) t
 able-at-boot script a b t valid =
     let S = boot_in a script in
-    ap (λ (waits : Bool). (not waits && not (is_stopped S t) && is_some (task_of script S t)) && is_none
+    ap (λ (waits : Bool). (is_unspent_row (thread_of S t) && not waits && not (is_stopped S t) && is_some (task_of script S t)) && is_none
     (wanted_holder S.synchronization.nano t)) (waiting-same (thread_of S t) a b (back-at-boot script t valid))
 
 pub able-in : (script : Script) (called shared : Bool) (history : List Entry) (t : ObjNo) (able : Bool)

@@ -1,6 +1,6 @@
 -- Whoever is to be reaped or to end may be: what a thread's next action says of its row, for a thread that is able.
 use Rattle.std.proofs.Common.{◌≡◌, Option, Some, None, true, ap}
-use Rattle.std.specs.Prelude.{◌&&◌, IsTrue, is_none, is_some, not}
+use Rattle.std.specs.Prelude.{IsTrue, is_none, is_some}
 use Rattle.std.proofs.lemmas.Bool.{and_parts}
 use Rattle.sym_base.specs.declared.number.ObjNo.{ObjNo}
 use Rattle.script_types.specs.declared.script.Script.{Script}
@@ -8,7 +8,8 @@ use Rattle.state_rows.specs.Nano.{wanted_holder}
 use Rattle.state_rows.specs.declared.thread.ThreadRow.{ThreadRow}
 use Rattle.machine.specs.declared.state.State.{State}
 use Rattle.machine.specs.Rows.{thread_of}
-use Rattle.machine.specs.Task.{is_able, is_ready, is_stopped, is_waiting, task_of, task_of_row}
+use Rattle.machine.specs.Task.{is_able, is_ready, task_of, task_of_row}
+use Rattle.move_laws.proofs.Readiness.ReadyParts.{ready_parts}
 use Rattle.next_actions.specs.NextActions.{Suits}
 use Rattle.next_actions.specs.declared.tasks.NextAction.TheVariants.{Dies, Ends}
 use Rattle.death.specs.Dying.{IsReapable, MayEnd}
@@ -17,7 +18,7 @@ use Rattle.death.specs.Dying.{IsReapable, MayEnd}
 able_task : (script : Script) (S : State) (t : ObjNo) → IsTrue (is_able script S t) → is_some (task_of script S t) ≡ true
 able_task script S t able =
     let ready = (and_parts (is_ready script S t) (is_none (wanted_holder S.synchronization.nano t)) able).0 in
-    (and_parts (not (is_waiting S t) && not (is_stopped S t)) (is_some (task_of script S t)) ready).1
+    (ready_parts script S t ready).task
 
 -- and so has a row
 no_row : (script : Script) (S : State) (t : ObjNo) → IsTrue (is_able script S t) → thread_of S t ≡ None → ⊥

@@ -143,7 +143,7 @@ at-after script history valid legal =
     (stands-boot true script (history ++ []) valid (subst (IsShared script) (sym (append-none history)) legal))).1.at
 
 returns-by : (script : Script) (S : State) (t o : ObjNo) (back : ComesBack S t o) (i : Instr)
-    → finds_by_name (Some i) ≡ true → decision_of script S t ≡ return_of S t back.row i → ReturnsTo script S t back.row.sought
+    → finds_by_name (Some i) ≡ true → decision_of script S t ≡ return_of S t back.row i → ReturnsTo script S t back.row.sought_place
 returns-by script S t o back (instr.Open kind name x) by_name is =
     record { found = o; back = back; sought = refl; word = word.Open; part = part.Do; decides = is }
 returns-by script S t o back (instr.Connect name slots x) by_name is =
@@ -151,10 +151,10 @@ returns-by script S t o back (instr.Connect name slots x) by_name is =
 returns-by script S t o back i by_name is = absurd (cc)
 
 returns-to : (script : Script) (S : State) (t o : ObjNo) → AtFinds script S → is_out S t ≡ true
-    → (back : ComesBack S t o) → ReturnsTo script S t back.row.sought
+    → (back : ComesBack S t o) → ReturnsTo script S t back.row.sought_place
 returns-to script S t o at out back = by (instruction script back.row) refl
   where
-    by : (x : Option Instr) → instruction script back.row ≡ x → ReturnsTo script S t back.row.sought
+    by : (x : Option Instr) → instruction script back.row ≡ x → ReturnsTo script S t back.row.sought_place
     by None e = let found = at t back.row back.is back.returns in let none = ap finds_by_name e in absurd (cc)
     by (Some i) e =
         let acts : decision_of script S t ≡ decision_of_row script S t (thread_of S t) (task_of script S t) =

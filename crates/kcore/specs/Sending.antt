@@ -53,7 +53,7 @@ pub record MaySend (notes : Notes) (S : State) (o : ObjNo) : Type 0 where
 pub record ReturnsTo (script : Script) (S : State) (t : ObjNo) (place : ℕ) : Type 0 where
   pub found : ObjNo
   pub back : ComesBack S t found
-  pub sought : back.row.sought ≡ place
+  pub sought : back.row.sought_place ≡ place
   pub word : Word
   pub part : Part
   pub decides : decision_of script S t ≡ return_to S t back.row word part

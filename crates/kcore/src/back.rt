@@ -5,7 +5,6 @@ ghost use Rattle.script_types.specs.Shape.{IsShaped};
 ghost use Rattle.entry_log.specs.declared.step.Part.{Part};
 ghost use Rattle.state_rows.specs.declared.thread.ThreadRow.{ThreadRow};
 ghost use Rattle.machine.specs.Find.{is_open, return_to};
-ghost use Rattle.machine.specs.Out.{found_object};
 ghost use Rattle.machine.specs.Rows.{object_of, thread_of};
 ghost use Rattle.machine.specs.Steps.{decision_of};
 ghost use Rattle.table_moves.specs.Notes.{IsNoteOut, notes_back};
@@ -17,7 +16,7 @@ ghost use Rattle.kcore.specs.Told.{IsTold, told_in};
 use crate::plans::finish;
 use entry_log::{Effects, Entry, Part};
 use kernel_tables::Core;
-use machine::{Decision, Move, found_object};
+use machine::{Decision, Move};
 use next_actions::decide_action;
 use ref_words::RefWords;
 use script_types::Script;
@@ -25,10 +24,10 @@ use sym_base::{ObjNo, ThreadNo};
 
 /// The number that a thread's find found.
 fn found_by<W: RefWords + Drop>(core: &Core<W>, thread: ThreadNo) -> ObjNo
-    ensures { (row : ThreadRow) → thread_of core.now.state thread ≡ Some row → result ≡ found_object row }
+    ensures { (row : ThreadRow) → thread_of core.now.state thread ≡ Some row → result ≡ row.sought }
 {
     match core.tables.procs.thread(thread) {
-        Some(row) => found_object(row),
+        Some(row) => row.sought,
         None => ObjNo(0),
     }
 }
@@ -88,7 +87,7 @@ fn open_back<W: RefWords + Drop>(
     requires may { MayComeBack script.now (W.slip note) thread core.old.notes core.old.state }
     requires settled { W.IsSettled note }
     requires fits { W.Fits core.old.words note }
-    requires object { (row : ThreadRow) → thread_of core.old.state thread ≡ Some row → object ≡ found_object row }
+    requires object { (row : ThreadRow) → thread_of core.old.state thread ≡ Some row → object ≡ row.sought }
     requires opened { is_open (W.slip note).place (object_of core.old.state object) ≡ true }
     requires decided { IsNoteOut core.old.notes (W.slip note) → core.old.decision ≡ decision_of script.now core.old.state thread }
     requires empty { effects.old ≡ [] }
@@ -113,7 +112,7 @@ fn miss_back<W: RefWords + Drop>(
     requires may { MayComeBack script.now (W.slip note) thread core.old.notes core.old.state }
     requires settled { W.IsSettled note }
     requires fits { W.Fits core.old.words note }
-    requires shut { (row : ThreadRow) → thread_of core.old.state thread ≡ Some row → is_open (W.slip note).place (object_of core.old.state (found_object row)) ≡ false }
+    requires shut { (row : ThreadRow) → thread_of core.old.state thread ≡ Some row → is_open (W.slip note).place (object_of core.old.state row.sought) ≡ false }
     requires decided { IsNoteOut core.old.notes (W.slip note) → core.old.decision ≡ decision_of script.now core.old.state thread }
     requires empty { effects.old ≡ [] }
     ensures made { WasMade script.now thread core.old.decision core.old core.new effects.new }

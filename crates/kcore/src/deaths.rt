@@ -66,7 +66,7 @@ pub fn bury<W: RefWords + Drop>(
     script: &Script,
     core: &mut Core<W>,
     thread: ThreadNo,
-    dfc: u8,
+    dfc: usize,
     entry: &mut Entry,
 )
     requires runs { RunsScript script.now core.old }

@@ -1,5 +1,5 @@
 -- Who runs on is ready.
-use Rattle.std.proofs.Common.{◌≡◌, ℕ, Bool, true, false, not, ◌&&◌, ◌||◌, ◌==◌, List, Option, Some, None, refl}
+use Rattle.std.proofs.Common.{◌≡◌, ℕ, Bool, true, false, not, ◌&&◌, ◌||◌, ◌==◌, List, Option, Some, None, refl, ap, ◌∙◌}
 use Rattle.std.specs.Prelude.{is_some}
 use Rattle.std.proofs.lemmas.Bool.{and_parts, not-true}
 use Rattle.sym_base.specs.declared.number.ObjNo.{ObjNo}
@@ -16,7 +16,8 @@ use Rattle.machine.specs.declared.state.State.{State}
 use Rattle.machine.specs.declared.task.Task.{Task}
 use Rattle.machine.specs.Out.{is_returning}
 use Rattle.machine.specs.Rows.{first_owed, thread_of}
-use Rattle.machine.specs.Task.{by_stage, is_ready, is_wait, live_task, pay_or}
+use Rattle.machine.specs.Task.{by_stage, is_live_row, is_ready, is_unspent, is_unspent_row, is_wait, live_task, pay_or}
+use Rattle.move_laws.proofs.Readiness.ReadyParts.{parts_ready}
 use Rattle.kernel_tables.specs.RunsOn.{is_busy, runs_on}
 
 -- who is busy has something to do, whatever comes before it
@@ -30,13 +31,21 @@ busy_some Doomed role None has call own busy = refl
 busy_some Cleaned role None has call own busy = absurd (cc)
 busy_some Buried role None has call own busy = absurd (cc)
 
--- neither callers who share the kernel nor a protection make a difference to who waits for nothing and isn't suspended
-goes_on : (shared protected some : Bool) → some ≡ true
-    → (not (false || (shared && false)) && not (not (0 == 0) && not protected) && some) ≡ true
-goes_on true true some is = is
-goes_on true false some is = is
-goes_on false true some is = is
-goes_on false false some is = is
+-- and is live or doomed
+busy_unspent : (stage : Stage) (role : Role) → is_busy stage role ≡ true → is_unspent stage ≡ true
+busy_unspent Live role busy = refl
+busy_unspent Doomed role busy = refl
+busy_unspent Cleaned role busy = absurd (cc)
+busy_unspent Buried role busy = absurd (cc)
+
+-- whoever isn't suspended isn't stopped, and whoever waits for nothing doesn't wait, whether callers share the kernel or not
+not_stopped : (live protected : Bool) → not (live && not (0 == 0) && not protected) ≡ true
+not_stopped true protected = refl
+not_stopped false protected = refl
+
+not_waiting : (shared : Bool) → not (false || (shared && false)) ≡ true
+not_waiting true = refl
+not_waiting false = refl
 
 -- a thread that runs on and isn't suspended is ready
 pub runs_ready : (script : Script) (S : State) (t : ObjNo) (row : ThreadRow) → thread_of S t ≡ Some row → runs_on row ≡ true
@@ -46,5 +55,9 @@ runs_ready script S t row there runs none =
     let first = and_parts (is_busy row.stage row.role) (not (is_wait row.waiting)) parts.0 in
     let here : is_returning row.part ≡ false = not-true (is_returning row.part) parts.1 in
     let awake : is_wait row.waiting ≡ false = not-true (is_wait row.waiting) first.1 in
-    rw (there, none, awake, here) (goes_on S.mode.shared (is_protected S.synchronization.nano t) _
-    (busy_some row.stage row.role (first_owed S t) _ _ _ first.0))
+    parts_ready script S t (record {
+      unspent = ap is_unspent_row there ∙ busy_unspent row.stage row.role first.0;
+      waits = rw (there, awake, here) (not_waiting S.mode.shared);
+      stopped = rw none (not_stopped (is_live_row (thread_of S t)) (is_protected S.synchronization.nano t));
+      task = rw (there, here) (busy_some row.stage row.role (first_owed S t) _ _ _ first.0);
+    })

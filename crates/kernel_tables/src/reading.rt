@@ -134,7 +134,7 @@ impl<W: RefWords + Drop> Reads for Tables<W> {
         self.nano.protected(thread)
     }
 
-    fn next_call(&self, queue: u8) -> Option<u8> {
+    fn next_call(&self, queue: u8) -> Option<usize> {
         self.deferred.next_call(queue)
     }
 
@@ -146,7 +146,7 @@ impl<W: RefWords + Drop> Reads for Tables<W> {
         self.deferred.is_queued(dfc)
     }
 
-    fn queue_of(&self, dfc: u8) -> u8 {
+    fn queue_of(&self, dfc: usize) -> u8 {
         self.deferred.queue_of(dfc)
     }
 
@@ -211,7 +211,7 @@ impl<W: RefWords + Drop> Reads for Tables<W> {
         is_one_left(process, self.procs.threads())
     }
 
-    fn buried_by(&self, script: &Script, dfc: u8) -> Option<ThreadNo> {
+    fn buried_by(&self, script: &Script, dfc: usize) -> Option<ThreadNo> {
         let place = burial_place(script, dfc, self.procs.threads())?;
         Some(ObjNo(place as u16))
     }

@@ -19,7 +19,6 @@ use Rattle.machine.specs.Rows.{object_of}
 use Rattle.machine.specs.References.{count_of}
 use Rattle.machine.specs.ThreadCalls.{is_live}
 use Rattle.machine.specs.Decide.{answer, one_move, refuse}
-use Rattle.machine.specs.Out.{found_object}
 
 -- an object that isn't dead and has no reference isn't found
 abbrev pub findable : State → Option ObjNo → Option ObjNo
@@ -52,5 +51,5 @@ miss t word o false = one_move (Of word Return) (Miss t o)
 
 abbrev pub return_to : State → ObjNo → ThreadRow → Word → Part → Decision
 return_to S t row word part =
-    if is_open row.sought (object_of S (found_object row)) then one_move (Of word Return) (Open t (found_object row) part)
-    else miss t word (found_object row) (is_live row.stage)
+    if is_open row.sought_place (object_of S row.sought) then one_move (Of word Return) (Open t row.sought part)
+    else miss t word row.sought (is_live row.stage)

@@ -45,7 +45,7 @@ use Rattle.machine.specs.declared.message_move.MessageMove.{MessageMove}
 use Rattle.machine.specs.declared.message_move.MessageMove.TheVariants.{Accept, Finish}
 use Rattle.state_rows.specs.ServerRows.{server_at, server_of, is_closing}
 use Rattle.machine.specs.Task.{instructions_of, served_queue}
-use Rattle.machine.specs.Out.{found_object, is_returning, part_of}
+use Rattle.machine.specs.Out.{is_returning, part_of}
 use Rattle.machine.specs.HeldIn.{owed_by}
 use Rattle.machine.specs.WellFormed.{IsAlive, IsAwaited, IsLiveThread, AreRows, Awaits, IsOwnerOf, times_logged, is_before_use, weight, IsSpent, is_spent}
 use Rattle.machine.specs.Choice.{priority_of}
@@ -151,18 +151,18 @@ pub record ComesBack (S : State) (t o : ObjNo) : Type 0 where
   pub row : ThreadRow
   pub is : thread_of S t ≡ Some row
   pub returns : is_returning row.part ≡ true
-  pub found : found_object row ≡ o
+  pub found : row.sought ≡ o
 
 -- it opens an object that is alive and has the place which it found, and goes on to a step in which it uses that; or misses one that isn't so
 pub record MayOpen (S : State) (t o : ObjNo) (part : Option Part) : Type 0 where
   pub back : ComesBack S t o
   pub alive : IsAlive (object_of S o)
-  pub same : place_of (object_of S o) ≡ back.row.sought
+  pub same : place_of (object_of S o) ≡ back.row.sought_place
   pub later : is_before_use part ≡ false
 
 pub record MayMiss (S : State) (t o : ObjNo) : Type 0 where
   pub back : ComesBack S t o
-  pub over : IsAlive (object_of S o) → place_of (object_of S o) ≡ back.row.sought → ⊥
+  pub over : IsAlive (object_of S o) → place_of (object_of S o) ≡ back.row.sought_place → ⊥
 
 -- an object may be made of this kind and name: there is room, and its name isn't taken
 pub record MayMake (S : State) (kind : Kind) (name : List ℕ) : Type 0 where

@@ -51,8 +51,8 @@ no_number_left S = (next_object S).0 == OBJECTS
 abbrev pub new_object : Kind → List ℕ → ℕ → ObjectRow
 new_object kind name place = record { kind = kind; name = name; dead = false; place = place }
 
--- a thread's row with another use, without its link, with what it found and comes back for, with what it opened, with what it missed,
--- with a number that it found, with another next step, with a value in a register, with the number of a message in one, at its next
+-- a thread's row with another use, without its link, with the object that it found and comes back for, with what it opened, with what it
+-- missed, with a number that it found, with another next step, with a value in a register, with the number of a message in one, at its next
 -- instruction, with what it waits for, and with another priority
 abbrev pub with_use : Option ObjNo → ThreadRow → ThreadRow
 with_use uses row = record row { uses = uses }
@@ -61,7 +61,7 @@ abbrev pub unlinked : ThreadRow → ThreadRow
 unlinked row = record row { link = None }
 
 abbrev pub with_found : ObjNo → ℕ → ThreadRow → ThreadRow
-with_found o place row = record row { found = o.0; sought = place; part = Some Return }
+with_found o place row = record row { sought = o; sought_place = place; part = Some Return }
 
 abbrev pub with_opened : ObjNo → Part → ThreadRow → ThreadRow
 with_opened o part row = record row { uses = Some o; part = Some part }

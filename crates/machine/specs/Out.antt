@@ -1,6 +1,6 @@
 -- Who is out. A thread that found an object by its name comes back next, to open it. Where callers share the kernel it is out
 -- meanwhile, and comes back at any later place; that is read off its row.
-use Rattle.std.specs.Prelude.{ℕ, ◌%◌, ◌==◌, ◌&&◌, Bool, true, false, if◌then◌else◌, Option, Some, None}
+use Rattle.std.specs.Prelude.{ℕ, ◌==◌, ◌&&◌, Bool, true, false, if◌then◌else◌, Option, Some, None}
 use Rattle.sym_base.specs.declared.number.ObjNo.{ObjNo}
 use Rattle.entry_log.specs.declared.step.Part.{Part}
 use Rattle.entry_log.specs.declared.step.Part.TheVariants.{Return}
@@ -20,14 +20,10 @@ abbrev pub is_returning : Option Part → Bool
 is_returning (Some Return) = true
 is_returning _ = false
 
--- the object that a thread's find found; a number of an object has 16 bits
-abbrev pub found_object : ThreadRow → ObjNo
-found_object row = record { 0 = row.found % 65536 }
-
 -- 1 where a thread found the object of this number and place and hasn't come back yet, else 0: another object may have the number since
 abbrev pub seeks : ObjNo → ℕ → Option ThreadRow → ℕ
 seeks o place None = 0
-seeks o place (Some row) = if is_returning row.part && row.sought == place then same (found_object row) o else 0
+seeks o place (Some row) = if is_returning row.part && row.sought_place == place then same row.sought o else 0
 
 -- how many threads are out on an object: none, unless callers share the kernel
 abbrev pub outs_of : State → ObjNo → ℕ

@@ -1,10 +1,11 @@
 -- How a doomed thread gives up what it has, one thing an action, and is cleaned and buried at last.
-use Rattle.std.specs.Prelude.{ℕ, ◌+◌, ◌%◌, ◌==◌, ◌&&◌, Bool, true, false, length, option_map, position, List, [], ◌∷◌, Option, Some, None}
+use Rattle.std.specs.Prelude.{ℕ, ◌+◌, ◌==◌, ◌&&◌, Bool, true, false, length, option_map, position, List, [], ◌∷◌, Option, Some, None}
 use Rattle.sym_base.specs.declared.number.ObjNo.{ObjNo}
 use Rattle.script_types.specs.declared.script.Script.{Script}
 use Rattle.entry_log.specs.declared.effect.Holder.TheVariants.{Temp, Link, Own}
 use Rattle.entry_log.specs.declared.step.Step.TheVariants as step
 use Rattle.state_rows.specs.Deferred.{queue_of}
+use Rattle.state_rows.specs.DeferredChanges.{first_burial}
 use Rattle.state_rows.specs.Locks.{best_waiter}
 use Rattle.state_rows.specs.declared.thread.Role.{Role}
 use Rattle.state_rows.specs.declared.thread.Role.TheVariants.{Supervisor, Queue, Declared}
@@ -74,12 +75,16 @@ give_up S t row (Use o) = record { step = step.Drop; moves = Lose (Temp t) o ∷
 give_up S t row (Handle h o) = record { step = step.Shut; moves = close_moves S t h o; answer = None }
 give_up S t row (Logon u s) = tell_logon S t row u s
 
--- the call that buries a thread: the supervisor's is number 64, and the others follow in order of the threads' numbers; a
--- number of a call has 8 bits
+-- how many threads come before one in order of object number: the supervisor is the first, then come the threads of the queues, and then the
+-- declared ones
+abbrev pub threads_before : Script → Role → ℕ
+threads_before script Supervisor = 0
+threads_before script (Queue queue) = queue
+threads_before script (Declared k) = 1 + length script.queues + k
+
+-- the call that buries a thread: the burials follow one another in the order of the threads
 abbrev pub burial_of : Script → Role → ℕ
-burial_of script Supervisor = 64
-burial_of script (Queue queue) = (64 + queue) % 256
-burial_of script (Declared k) = (65 + length script.queues + k) % 256
+burial_of script role = first_burial + threads_before script role
 
 -- nothing is left: the thread is cleaned, and its burial joins the supervisor's queue
 abbrev pub clean : Script → State → ObjNo → ThreadRow → Decision

@@ -5,6 +5,7 @@ use Rattle.script_types.specs.declared.script.Script.{Script}
 use Rattle.script_types.specs.declared.declaration.ThreadDecl.{ThreadDecl}
 use Rattle.script_types.specs.declared.instruction.Instr.{Instr}
 use Rattle.state_rows.specs.Deferred.{next_of}
+use Rattle.state_rows.specs.DeferredChanges.{first_burial}
 use Rattle.state_rows.specs.declared.deferred.DeferredRows.{DeferredRows}
 use Rattle.state_rows.specs.Nano.{suspend_count, is_protected, wanted_holder}
 use Rattle.state_rows.specs.declared.duty.Owed.{Owed}
@@ -22,6 +23,7 @@ use Rattle.machine.specs.declared.holding.Holding.{Holding}
 use Rattle.machine.specs.Holdings.{holdings, held_servers}
 use Rattle.machine.specs.Out.{is_out, is_returning}
 use Rattle.machine.specs.Rows.{thread_of, first_owed}
+use Rattle.machine.specs.ThreadCalls.{is_live}
 
 -- the declaration of a thread: the supervisor and the thread of a queue have none
 abbrev pub declared_of : Script → Role → Option ThreadDecl
@@ -60,9 +62,9 @@ served_queue (Declared k) = None
 abbrev pub next_call : DeferredRows → Role → Option ℕ
 next_call r role = option_and_then (next_of r) (served_queue role)
 
--- the declared calls have numbers below 64, and the others are burials
+-- the calls before the first burial are the declared ones, and the others are burials
 abbrev pub call_task : ℕ → Task
-call_task dfc = if nat_lt dfc 64 then RunDfc dfc else Bury dfc
+call_task dfc = if nat_lt dfc first_burial then RunDfc dfc else Bury dfc
 
 -- the work of closing servers comes before what a thread does else
 abbrev pub work_or : List Holding → Task → Task
@@ -122,13 +124,28 @@ is_waiting_row shared (Some row) = is_wait row.waiting || (shared && is_returnin
 abbrev pub is_waiting : State → ObjNo → Bool
 is_waiting S t = is_waiting_row S.mode.shared (thread_of S t)
 
--- whether a thread is stopped: it is suspended, and nothing protects it from that
-abbrev pub is_stopped : State → ObjNo → Bool
-is_stopped S t = not (suspend_count S.synchronization.nano t == 0) && not (is_protected S.synchronization.nano t)
+-- whether a thread is live
+abbrev pub is_live_row : Option ThreadRow → Bool
+is_live_row None = false
+is_live_row (Some row) = is_live row.stage
 
--- a thread is ready where it has something to do, doesn't wait and isn't stopped
+-- whether a thread is stopped: it is live and suspended, and nothing protects it from that
+abbrev pub is_stopped : State → ObjNo → Bool
+is_stopped S t = is_live_row (thread_of S t) && not (suspend_count S.synchronization.nano t == 0) && not (is_protected S.synchronization.nano t)
+
+-- whether a thread is live or doomed: a cleaned or a buried one does nothing any more
+abbrev pub is_unspent : Stage → Bool
+is_unspent Live = true
+is_unspent Doomed = true
+is_unspent _ = false
+
+abbrev pub is_unspent_row : Option ThreadRow → Bool
+is_unspent_row None = false
+is_unspent_row (Some row) = is_unspent row.stage
+
+-- a thread is ready if it is live or doomed, doesn't wait, isn't stopped, and has something to do
 abbrev pub is_ready : Script → State → ObjNo → Bool
-is_ready script S t = not (is_waiting S t) && not (is_stopped S t) && is_some (task_of script S t)
+is_ready script S t = is_unspent_row (thread_of S t) && not (is_waiting S t) && not (is_stopped S t) && is_some (task_of script S t)
 
 -- a thread is able to act where it is ready and doesn't want a fast mutex that is held
 abbrev pub is_able : Script → State → ObjNo → Bool

@@ -9,7 +9,7 @@ pub enum DeferredMove {
     /// The deferred function call of this number joins the immediate queue, to be moved.
     AddFromInterrupt(u8),
     /// The deferred function call of this number joins its own queue, which is this.
-    Add(u8, u8),
+    Add(usize, u8),
     /// The oldest item leaves the immediate queue.
     TakeImmediate,
     /// The call that comes next leaves this queue.

@@ -55,7 +55,7 @@ pub use nano_rows::{
 pub use plan::{Body, Plan};
 pub use references::References;
 pub use request_move::RequestMove;
-pub use returning::{found_object, is_returning};
+pub use returning::is_returning;
 pub use rows::{first_owed, object_of, row_of, set_row, set_slot, table_of, thread_in, thread_of};
 pub use server_move::ServerMove;
 pub use services::Services;

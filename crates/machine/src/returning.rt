@@ -1,6 +1,6 @@
 //! Who is out.
 ghost use Rattle.std.specs.Prelude.{◌≡◌, nat_lt};
-ghost use Rattle.machine.specs.Out.{is_returning, found_object, seeks, outs_of};
+ghost use Rattle.machine.specs.Out.{is_returning, seeks, outs_of};
 ghost use Rattle.std.specs.List.{list_any};
 
 use crate::rows::object_of;
@@ -16,20 +16,13 @@ pub fn is_returning(part: Option<Part>) -> bool
     matches!(part, Some(Part::Return))
 }
 
-/// The object that a thread's find found.
-pub fn found_object(row: &ThreadRow) -> ObjNo
-    ensures { result ≡ found_object row.now }
-{
-    ObjNo((row.found % 65_536) as u16)
-}
-
 /// Whether a thread found an object of this number and place and hasn't come back yet.
 fn seeks(object: ObjNo, place: u64, row: &Option<ThreadRow>) -> bool
     ensures { result ≡ nat_lt 0 (seeks object place row.now) }
 {
     match row {
         Some(row) => {
-            is_returning(row.part) && row.sought == place && found_object(row).0 == object.0
+            is_returning(row.part) && row.sought_place == place && row.sought.0 == object.0
         }
         None => false,
     }

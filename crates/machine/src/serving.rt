@@ -11,7 +11,8 @@ use sym_base::{Items, ObjNo};
 pub struct Serving {
     /// Servers and sessions, and which sessions are linked to which server.
     pub servers: ServerRows,
-    /// The servers that each thread owns, in order of making.
+    /// The servers that each thread owns and that haven't ended, in order of making, in which it gives them up. Whose a server
+    /// is, its row says; the two agree in every state (`AreServers`: `owners` and `once`).
     pub owned: Items<Items<ObjNo>>,
     /// The outstanding messages.
     pub messages: MessageRows,

@@ -17,7 +17,8 @@ pub struct Synchronization {
     pub requests: RequestRows,
     /// Mutexes and semaphores, and who waits for them.
     pub locks: LockRows,
-    /// The mutexes that each thread holds, in order of taking.
+    /// The mutexes that each thread holds, in order of taking, in which it gives them up as it dies. Whose a mutex is, the rows
+    /// of mutexes say; the two agree in every state (`AreLocks`: `owned` and `held`).
     pub mutexes: Items<Items<ObjNo>>,
     /// The logons on each thread, in order of making: the thread that made each, and its status, 0 to 15, which is going to tell
     /// the death.

@@ -18,7 +18,7 @@ pub enum Task {
     /// It runs the call of its queue that comes next.
     RunDfc(u8),
     /// It buries the thread whose burial this call is, the next of its queue.
-    Bury(u8),
+    Bury(usize),
     /// It makes the next step of its instruction.
     Step(Instr),
     /// At its list's end it gives up what protects it.

@@ -7,7 +7,7 @@ use Rattle.script_types.specs.Source.{IsWellFormed}
 use Rattle.script_types.specs.declared.instruction.Instr.{Instr}
 use Rattle.script_types.specs.declared.script.Script.{Script}
 use Rattle.entry_log.specs.declared.entry.Entry.{Entry}
-use Rattle.state_rows.specs.Nano.{holder_of, is_protected, wanted_holder}
+use Rattle.state_rows.specs.Nano.{holder_of, is_protected, suspend_count, wanted_holder}
 use Rattle.state_rows.specs.declared.duty.Owed.{Owed}
 use Rattle.state_rows.specs.declared.thread.Stage.{Stage}
 use Rattle.state_rows.specs.declared.thread.Stage.TheVariants.{Buried, Cleaned, Doomed, Live}
@@ -17,13 +17,15 @@ use Rattle.machine.specs.History.{after_in}
 use Rattle.machine.specs.Holdings.{holdings}
 use Rattle.machine.specs.Out.{is_out, is_returning, part_of}
 use Rattle.machine.specs.Rows.{first_owed, thread_of}
-use Rattle.machine.specs.Task.{by_stage, instruction, is_able, is_stopped, is_wait, is_waiting, is_waiting_row, pay_or, return_or, task_of, task_of_row}
+use Rattle.machine.specs.ThreadCalls.{is_live}
+use Rattle.machine.specs.Task.{by_stage, instruction, is_able, is_live_row, is_ready, is_stopped, is_unspent, is_unspent_row, is_wait, is_waiting, is_waiting_row, pay_or, return_or, task_of, task_of_row}
 use Rattle.machine.specs.declared.holding.Holding.{Holding}
 use Rattle.machine.specs.declared.state.State.{State}
 use Rattle.machine.specs.declared.task.Task.{Task}
 use Rattle.machine_safe.specs.DoomedAble.{AreDoomedAble}
 use Rattle.machine_safe.proofs.LeftNothing.{steady-after}
-use Rattle.machine_safe.proofs.Serving.Freed.{AreFreed}
+use Rattle.machine_safe.proofs.Serving.DoomedWaits.{AreFreed}
+use Rattle.move_laws.proofs.Readiness.ReadyParts.{parts_ready}
 
 -- a doomed thread has something to do
 returned-some : (b : Bool) (at : Option Instr) (other : Option Task) → is_some other ≡ true → is_some (return_or b at other) ≡ true
@@ -55,14 +57,20 @@ freed-able script S t row freed is doomed out =
     let waits : is_waiting S t ≡ false =
     ap (is_waiting_row S.mode.shared) is
     ∙ (ap (λ (what : Waiting). is_wait what || (S.mode.shared && is_returning row.part)) free.0 ∙ returns) in
-    let stopped : is_stopped S t ≡ false = ap (λ (n : ℕ). not (n == 0) && not (is_protected S.synchronization.nano t)) free.1.count in
+    let live : is_live_row (thread_of S t) ≡ false = ap is_live_row is ∙ ap is_live doomed in
+    let stopped : is_stopped S t ≡ false =
+    ap (λ (b : Bool). b && not (suspend_count S.synchronization.nano t == 0) && not (is_protected S.synchronization.nano t)) live in
     let busy : is_some (task_of script S t) ≡ true =
     ap (λ (r : Option ThreadRow). is_some (task_of_row script S t r)) is ∙ dying-some script S t row doomed in
     let wants : is_none (wanted_holder S.synchronization.nano t) ≡ true =
     ap (λ (want : Option ℕ). is_none (option_and_then (holder_of S.synchronization.nano) want)) free.1.wants in
-    and_from (not (is_waiting S t) && not (is_stopped S t) && is_some (task_of script S t)) (is_none (wanted_holder S.synchronization.nano t))
-    (and_from (not (is_waiting S t) && not (is_stopped S t)) (is_some (task_of script S t))
-    (and_from (not (is_waiting S t)) (not (is_stopped S t)) (ap not waits) (ap not stopped)) busy) wants
+    and_from (is_ready script S t) (is_none (wanted_holder S.synchronization.nano t))
+    (parts_ready script S t (record {
+      unspent = ap is_unspent_row is ∙ ap is_unspent doomed;
+      waits = ap not waits;
+      stopped = ap not stopped;
+      task = busy;
+    })) wants
 
 pub doomed_able : (shared : Bool) (script : Script) (history : List Entry) → IsWellFormed script → AreDoomedAble shared script history
 doomed_able shared script history valid t row is doomed out =

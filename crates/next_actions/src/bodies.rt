@@ -43,7 +43,7 @@ fn queue_call<R: Reads>(moves: &mut Moves, reads: &R, dfc: Option<u8>)
 {
     moves.clear();
     if let Some(dfc) = dfc {
-        moves.push(add_call(reads, dfc));
+        moves.push(add_call(reads, dfc as usize));
     }
 }
 
@@ -176,7 +176,7 @@ pub fn leave_queue<R: Reads>(moves: &mut Moves, reads: &R, body: Body)
         Body::Interrupt(_) => {}
         Body::Immediate(_) => moves.push(Move::Deferred(DeferredMove::TakeImmediate)),
         Body::Deferred(dfc) => {
-            let take = DeferredMove::Take(reads.queue_of(dfc));
+            let take = DeferredMove::Take(reads.queue_of(dfc as usize));
             moves.push(Move::Deferred(take));
         }
     }

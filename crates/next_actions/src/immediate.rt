@@ -30,7 +30,7 @@ fn move_call<R: Reads>(decision: &mut Decision, script: &Script, reads: &R, dfc:
     decision
         .moves
         .push(Move::Deferred(DeferredMove::TakeImmediate));
-    decision.moves.push(add_call(reads, dfc));
+    decision.moves.push(add_call(reads, dfc as usize));
     decision.answer = None;
 }
 

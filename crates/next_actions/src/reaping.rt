@@ -268,7 +268,7 @@ pub fn reap<R: Reads>(decision: &mut Decision, script: &Script, reads: &R, threa
 }
 
 /// The call leaves its queue, and the thread is buried whose burial it is.
-pub fn bury<R: Reads>(decision: &mut Decision, script: &Script, reads: &R, dfc: u8)
+pub fn bury<R: Reads>(decision: &mut Decision, script: &Script, reads: &R, dfc: usize)
     requires { R.is_readable reads.now }
     ensures { decision.new ≡ bury script.now (R.state reads.now) dfc }
 {

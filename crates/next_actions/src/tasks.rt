@@ -24,11 +24,8 @@ use entry_log::Step;
 use machine::{Body, Decision, Move, Owed, ThreadRow, is_returning};
 use readings::{Reads, instruction, may_act, next_call, serves_queue};
 use script_types::{Instr, Script};
-use state_rows::Stage;
+use state_rows::{FIRST_BURIAL, Stage};
 use sym_base::ThreadNo;
-
-/// The number of the first call that is a burial.
-const FIRST_BURIAL: u8 = 64;
 
 /// What a thread that may act does next.
 pub enum NextAction<'a> {
@@ -43,7 +40,7 @@ pub enum NextAction<'a> {
     /// It is at its list's end, and nothing protects it: it ends.
     Ends,
     /// It buries a thread, whose burial this call is.
-    Buries(u8),
+    Buries(usize),
 }
 
 /// What is told of the payment of an item that a thread owes.
@@ -82,13 +79,13 @@ fn end_of_list<'a, R: Reads>(decision: &mut Decision, reads: &R, thread: ThreadN
 }
 
 /// What a thread does that serves a queue: this call of it runs, or buries a thread.
-fn serve<'a>(decision: &mut Decision, call: Option<u8>) -> NextAction<'a>
+fn serve<'a>(decision: &mut Decision, call: Option<usize>) -> NextAction<'a>
     ensures decided { (script : Script) (S : State) (t : ObjNo) (row : ThreadRow) → decided_by script t S (Some row) decision.new result ≡ decision_of_row script S t (Some row) (option_map call_task call) }
     ensures step { IsStepOf (option_map call_task call) result }
     ensures suits { (S : State) (t : ObjNo) (row : ThreadRow) → SuitsRow S t row result }
 {
     match call {
-        Some(dfc) if dfc < FIRST_BURIAL => NextAction::Runs(Body::Deferred(dfc)),
+        Some(dfc) if dfc < FIRST_BURIAL => NextAction::Runs(Body::Deferred(dfc as u8)),
         Some(dfc) => NextAction::Buries(dfc),
         None => {
             nothing(decision);

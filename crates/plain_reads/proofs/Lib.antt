@@ -1,4 +1,3 @@
 pub mod Best
-pub mod BurialNumbers
 pub mod First
 pub mod Work

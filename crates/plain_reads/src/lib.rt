@@ -14,7 +14,7 @@ mod requests;
 mod servers;
 
 pub use burials::{burial_of, burial_place, buried_by, is_buried_by};
-pub use calls::{is_queued, next_immediate, next_of, queue_of};
+pub use calls::{is_call_queued, is_queued, next_immediate, next_of, queue_of};
 pub use choice::first_of_greatest;
 pub use holdings::{first_handle, first_used, has_one_left, is_left, is_one_left};
 pub use lists::first_in;

@@ -5,7 +5,7 @@ ghost use Rattle.machine.specs.DeferredMoves.{deferred_moved};
 ghost use Rattle.state_rows.specs.DeferredChanges.{after_add_idfc, after_add_from_irq, after_add, after_next_idfc, after_next_dfc, without, left};
 
 use machine::{DeferredMove, DeferredRows};
-use plain_reads::{is_queued, next_of, queue_of};
+use plain_reads::{is_call_queued, is_queued, next_of, queue_of};
 use state_rows::Item;
 use std::alloc::Global;
 use sym_base::{Items, NoMemory};
@@ -31,7 +31,7 @@ fn add_to_move(rows: &mut DeferredRows, dfc: u8) -> Result<(), NoMemory>
 }
 
 /// A call stands last in this queue.
-fn push_call(queues: &mut Items<Items<u8>>, queue: u8, dfc: u8) -> Result<(), NoMemory>
+fn push_call(queues: &mut Items<Items<usize>>, queue: u8, dfc: usize) -> Result<(), NoMemory>
     ensures { OnOk result (queues.new ≡ slice_set queues.old queue (slice_index_or queues.old queue [] ++ dfc ∷ [])) }
 {
     let at = queue as usize;
@@ -43,10 +43,10 @@ fn push_call(queues: &mut Items<Items<u8>>, queue: u8, dfc: u8) -> Result<(), No
 }
 
 /// The deferred function call joins its own queue, unless it is queued.
-fn add(rows: &mut DeferredRows, dfc: u8) -> Result<(), NoMemory>
+fn add(rows: &mut DeferredRows, dfc: usize) -> Result<(), NoMemory>
     ensures { OnOk result (rows.new ≡ after_add rows.old dfc) }
 {
-    if !is_queued(rows, Item::Move(dfc)) {
+    if !is_call_queued(rows, dfc) {
         let queue = queue_of(rows, dfc);
         push_call(&mut rows.queues, queue, dfc)?;
     }
@@ -61,7 +61,7 @@ fn take_immediate(rows: &mut DeferredRows)
 }
 
 /// The calls without one.
-fn without(alloc: Global, dfc: u8, calls: &[u8]) -> Result<Vec<u8>, NoMemory>
+fn without(alloc: Global, dfc: usize, calls: &[usize]) -> Result<Vec<usize>, NoMemory>
     ensures { IfOk result (λ rest. rest.items ≡ without dfc calls.now) }
 {
     let mut rest = Vec::new(alloc);
@@ -75,7 +75,7 @@ fn without(alloc: Global, dfc: u8, calls: &[u8]) -> Result<Vec<u8>, NoMemory>
 }
 
 /// The calls without one, where there is one.
-fn left(alloc: Global, dfc: Option<u8>, calls: &[u8]) -> Result<Vec<u8>, NoMemory>
+fn left(alloc: Global, dfc: Option<usize>, calls: &[usize]) -> Result<Vec<usize>, NoMemory>
     ensures { IfOk result (λ rest. rest.items ≡ left dfc calls.now) }
 {
     match dfc {
@@ -87,9 +87,9 @@ fn left(alloc: Global, dfc: Option<u8>, calls: &[u8]) -> Result<Vec<u8>, NoMemor
 /// A call leaves this queue, where there is one.
 fn leave_queue(
     alloc: Global,
-    queues: &mut Items<Items<u8>>,
+    queues: &mut Items<Items<usize>>,
     queue: u8,
-    dfc: Option<u8>,
+    dfc: Option<usize>,
 ) -> Result<(), NoMemory>
     ensures { OnOk result (queues.new ≡ slice_set queues.old queue (left dfc (slice_index_or queues.old queue []))) }
 {

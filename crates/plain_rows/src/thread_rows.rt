@@ -33,8 +33,8 @@ fn with_found(row: &mut Option<ThreadRow>, object: ObjNo, place: u64)
     ensures { row.new ≡ option_map (with_found object place) row.old }
 {
     if let Some(row) = row {
-        row.found = u32::from(object.0);
-        row.sought = place;
+        row.sought = object;
+        row.sought_place = place;
         row.part = Some(Part::Return);
     }
 }

@@ -104,7 +104,7 @@ impl Reads for State {
         is_protected(&self.synchronization.nano, thread)
     }
 
-    fn next_call(&self, queue: u8) -> Option<u8> {
+    fn next_call(&self, queue: u8) -> Option<usize> {
         next_of(&self.synchronization.deferred, queue)
     }
 
@@ -116,7 +116,7 @@ impl Reads for State {
         is_queued(&self.synchronization.deferred, Item::Move(dfc))
     }
 
-    fn queue_of(&self, dfc: u8) -> u8 {
+    fn queue_of(&self, dfc: usize) -> u8 {
         queue_of(&self.synchronization.deferred, dfc)
     }
 
@@ -193,7 +193,7 @@ impl Reads for State {
         has_one_left(self, process)
     }
 
-    fn buried_by(&self, script: &Script, dfc: u8) -> Option<ThreadNo> {
+    fn buried_by(&self, script: &Script, dfc: usize) -> Option<ThreadNo> {
         buried_by(self, script, dfc)
     }
 

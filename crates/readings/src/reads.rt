@@ -126,7 +126,7 @@ pub trait Reads {
         ensures { result ≡ is_protected (state self.now).synchronization.nano thread };
 
     /// The call of a queue of deferred function calls that runs next.
-    fn next_call(&self, queue: u8) -> Option<u8>
+    fn next_call(&self, queue: u8) -> Option<usize>
         ensures { result ≡ next_call_of (state self.now).synchronization.deferred queue };
 
     /// The item of the immediate queue that comes next.
@@ -138,7 +138,7 @@ pub trait Reads {
         ensures { result ≡ is_queued (state self.now).synchronization.deferred (Move dfc) };
 
     /// The queue of a deferred function call.
-    fn queue_of(&self, dfc: u8) -> u8
+    fn queue_of(&self, dfc: usize) -> u8
         ensures { result ≡ queue_of (state self.now).synchronization.deferred dfc };
 
     /// The request that a device has to complete.
@@ -225,7 +225,7 @@ pub trait Reads {
         ensures { result ≡ has_one_left (state self.now) process };
 
     /// The cleaned thread whose burial a call is.
-    fn buried_by(&self, script: &Script, dfc: u8) -> Option<ThreadNo>
+    fn buried_by(&self, script: &Script, dfc: usize) -> Option<ThreadNo>
         requires { is_readable self.now }
         ensures { result ≡ buried_by script.now (state self.now) dfc };
 

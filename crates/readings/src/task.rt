@@ -2,8 +2,8 @@
 ghost use Rattle.std.specs.Prelude.{◌≡◌, List, Some, is_some, option_copied};
 ghost use Rattle.machine.specs.declared.holding.Holding.{Holding};
 ghost use Rattle.machine.specs.declared.task.Task.{Task};
-ghost use Rattle.machine.specs.Rows.{first_owed};
-ghost use Rattle.machine.specs.Task.{instruction, served_queue, next_call, task_of_row, by_stage, live_task, is_wait, is_waiting_row, is_stopped, is_ready, is_able, may_act, declared_of};
+ghost use Rattle.machine.specs.Rows.{first_owed, thread_of};
+ghost use Rattle.machine.specs.Task.{instruction, served_queue, next_call, task_of_row, by_stage, live_task, is_wait, is_waiting_row, is_stopped, is_ready, is_unspent, is_able, may_act, declared_of};
 ghost use Rattle.machine.specs.Out.{is_out};
 ghost use Rattle.state_rows.specs.Nano.{is_protected, wanted_holder};
 
@@ -44,7 +44,7 @@ fn served_queue(role: Role) -> Option<u8>
 }
 
 /// The call that comes next of the queue that a thread of this role serves.
-pub fn next_call<R: Reads>(reads: &R, role: Role) -> Option<u8>
+pub fn next_call<R: Reads>(reads: &R, role: Role) -> Option<usize>
     ensures { result ≡ next_call (R.state reads.now).synchronization.deferred role }
 {
     let queue = served_queue(role)?;
@@ -103,21 +103,35 @@ fn is_waiting_row(shared: bool, row: &ThreadRow) -> bool
     is_wait(row.waiting) || shared && is_returning(row.part)
 }
 
-/// Whether a thread is stopped: it is suspended, and nothing protects it from that.
-fn is_stopped<R: Reads>(reads: &R, thread: ThreadNo) -> bool
+/// Whether the thread of this row is stopped: it is live and suspended, and nothing protects it from that.
+fn is_stopped<R: Reads>(reads: &R, thread: ThreadNo, row: &ThreadRow) -> bool
+    requires { thread_of (R.state reads.now) thread ≡ Some row.now }
     ensures { result ≡ is_stopped (R.state reads.now) thread }
 {
-    reads.suspend_count(thread) != 0 && !reads.is_protected(thread)
+    reads.suspend_count(thread) != 0 && row.stage == Stage::Live && !reads.is_protected(thread)
 }
 
-/// A thread is ready where it has something to do, doesn't wait and isn't stopped.
+/// Whether a thread is live or doomed: a cleaned or a buried one does nothing any more.
+fn is_unspent(stage: Stage) -> bool
+    ensures { result ≡ is_unspent stage }
+{
+    match stage {
+        Stage::Live | Stage::Doomed => true,
+        Stage::Cleaned | Stage::Buried => false,
+    }
+}
+
+/// A thread is ready if it is live or doomed, doesn't wait, isn't stopped, and has something to do.
 pub fn is_ready<R: Reads>(script: &Script, reads: &R, thread: ThreadNo) -> bool
     ensures { result ≡ is_ready script.now (R.state reads.now) thread }
 {
     let Some(row) = reads.thread(thread) else {
         return false;
     };
-    if is_waiting_row(reads.is_shared(), row) || is_stopped(reads, thread) {
+    if !is_unspent(row.stage) {
+        return false;
+    }
+    if is_waiting_row(reads.is_shared(), row) || is_stopped(reads, thread, row) {
         return false;
     }
     has_task(script, reads, thread, row)

@@ -25,7 +25,7 @@ use Rattle.machine.specs.Boot.{boot_in, uses_again}
 use Rattle.machine.specs.Find.{is_open, miss, return_to}
 use Rattle.machine.specs.History.{after_from, after_in, choosing, entry_by, transition, IsLegalFrom, IsShared}
 use Rattle.machine.specs.Moves.{tell}
-use Rattle.machine.specs.Out.{found_object, is_out, is_returning, part_of, seeks}
+use Rattle.machine.specs.Out.{is_out, is_returning, part_of, seeks}
 use Rattle.machine.specs.Rows.{object_of, thread_of}
 use Rattle.machine.specs.Steps.{decision_of, decision_of_row, decision_where, return_of}
 use Rattle.machine.specs.Task.{instruction, is_able, may_act, task_of, task_of_row}
@@ -74,15 +74,15 @@ since-unswept (e ∷ es) o = by (nat_lt 0 (removals (effects_of (e ∷ es)) o)) 
 
 -- the decision of a return: its moves tell that the object is used, if that may be opened, and else that it is missed
 record Back (S : State) (t : ObjNo) (row : ThreadRow) (d : Decision) : Type 0 where
-  uses : is_open row.sought (object_of S (found_object row)) ≡ true → tell t d.moves S ≡ Plus (Temp t) (found_object row) ∷ []
-  misses : is_open row.sought (object_of S (found_object row)) ≡ false → tell t d.moves S ≡ Missed (found_object row) ∷ []
+  uses : is_open row.sought_place (object_of S row.sought) ≡ true → tell t d.moves S ≡ Plus (Temp t) row.sought ∷ []
+  misses : is_open row.sought_place (object_of S row.sought) ≡ false → tell t d.moves S ≡ Missed row.sought ∷ []
 
 back-to : (S : State) (t : ObjNo) (row : ThreadRow) (word : Word) (p : Part) → Back S t row (return_to S t row word p)
 back-to S t row word p =
-    if_cases (Back S t row) (is_open row.sought (object_of S (found_object row))) _ _
+    if_cases (Back S t row) (is_open row.sought_place (object_of S row.sought)) _ _
     (λ opened. record { uses = λ _. refl; misses = λ shut. absurd (cc) }) (λ shut. missed shut (is_live row.stage))
   where
-    missed : is_open row.sought (object_of S (found_object row)) ≡ false → (live : Bool) → Back S t row (miss t word (found_object row) live)
+    missed : is_open row.sought_place (object_of S row.sought) ≡ false → (live : Bool) → Back S t row (miss t word row.sought live)
     missed shut true = record { uses = λ opened. absurd (cc); misses = λ _. refl }
     missed shut false = record { uses = λ opened. absurd (cc); misses = λ _. refl }
 
@@ -109,8 +109,8 @@ back-decided script S t row at may is returns = by (instruction script row) refl
 
 back-effects : (script : Script) (S : State) (t : ObjNo) (row : ThreadRow) → Back S t row (decision_of script S t)
     → (effects : List Effect) → effects ≡ (act script S t).outcome.effects
-    → (is_open row.sought (object_of S (found_object row)) ≡ true → effects ≡ Plus (Temp t) (found_object row) ∷ [])
-    × (is_open row.sought (object_of S (found_object row)) ≡ false → effects ≡ Missed (found_object row) ∷ [])
+    → (is_open row.sought_place (object_of S row.sought) ≡ true → effects ≡ Plus (Temp t) row.sought ∷ [])
+    × (is_open row.sought_place (object_of S row.sought) ≡ false → effects ≡ Missed row.sought ∷ [])
 unfolding act
 back-effects script S t row b effects told = (λ opened. told ∙ b.uses opened, λ shut. told ∙ b.misses shut)
 
@@ -147,16 +147,16 @@ module _ (script : Script) (old new : List Entry) (t : ObjNo) (valid : IsWellFor
   sound : IsSoundRun script (boot_in true script) old
   sound = legal_run true script old valid legal
 
-  seen : (row : ThreadRow) → thread_of S t ≡ Some row → is_returning row.part ≡ true → 0 < seeks (found_object row) row.sought (thread_of S t)
+  seen : (row : ThreadRow) → thread_of S t ≡ Some row → is_returning row.part ≡ true → 0 < seeks row.sought row.sought_place (thread_of S t)
   seen row is returns =
-      let one = seeks-one S t (found_object row) (record { row = row; is = is; returns = returns; found = refl }) in omega arith
+      let one = seeks-one S t row.sought (record { row = row; is = is; returns = returns; found = refl }) in omega arith
 
   stood : (row : ThreadRow) → thread_of S t ≡ Some row → is_returning row.part ≡ true
-      → Stood S (λ o p. ⊥ ⊎ Died script (boot_in true script) old o p) (found_object row) row.sought
+      → Stood S (λ o p. ⊥ ⊎ Died script (boot_in true script) old o p) row.sought row.sought_place
   stood row is returns =
       finds-stand script shaped (boot_in true script) 1 old (λ o p. ⊥) at-boot sound
       (λ o dead. let undead : is_dead (object_of (boot_in true script) o) ≡ 0 = not_dead-boot script shaped o in absurd (omega arith))
-      (λ u o p out. let out_none = out-boot true script u o p shaped in absurd (omega arith)) t (found_object row) row.sought
+      (λ u o p out. let out_none = out-boot true script u o p shaped in absurd (omega arith)) t row.sought row.sought_place
       (seen row is returns)
 
   -- what is alive died neither since its number was last swept, nor ever where no number is used again
@@ -180,31 +180,31 @@ module _ (script : Script) (old new : List Entry) (t : ObjNo) (valid : IsWellFor
 
   tells-of : (row : ThreadRow) (e : Entry) → thread_of S t ≡ Some row → is_returning row.part ≡ true
       → (effects : List Effect) → effects ≡ (act script (choosing e S) t).outcome.effects → is_out S t ≡ true
-      → Uses script old t (found_object row) effects ⊎ Misses script old (found_object row) row.sought effects
-  tells-of row e is returns effects told out = by (is_open row.sought (object_of S (found_object row))) refl
+      → Uses script old t row.sought effects ⊎ Misses script old row.sought row.sought_place effects
+  tells-of row e is returns effects told out = by (is_open row.sought_place (object_of S row.sought)) refl
     where
       o : ObjNo
-      o = found_object row
+      o = row.sought
 
       both :
-          (is_open row.sought (object_of S o) ≡ true → effects ≡ Plus (Temp t) o ∷ [])
-          × (is_open row.sought (object_of S o) ≡ false → effects ≡ Missed o ∷ [])
+          (is_open row.sought_place (object_of S o) ≡ true → effects ≡ Plus (Temp t) o ∷ [])
+          × (is_open row.sought_place (object_of S o) ≡ false → effects ≡ Missed o ∷ [])
       both =
           back-effects script (choosing e S) t row
           (back-decided script (choosing e S) t row stands
           (out-may (is_able script (choosing e S) t) S.mode.shared (is_returning (part_of (thread_of S t))) out) is returns)
           effects told
 
-      by : (b : Bool) → is_open row.sought (object_of S o) ≡ b → Uses script old t o effects ⊎ Misses script old o row.sought effects
+      by : (b : Bool) → is_open row.sought_place (object_of S o) ≡ b → Uses script old t o effects ⊎ Misses script old o row.sought_place effects
       by true opened =
-          let alive = open-row row.sought (object_of S o) opened in
+          let alive = open-row row.sought_place (object_of S o) opened in
           inl (record { lives = since-lives o alive; never = never-lives o alive; effect = both.0 opened })
       by false shut = inr (missed (stood row is returns))
         where
-          missed : Stood S (λ x q. ⊥ ⊎ Died script (boot_in true script) old x q) o row.sought → Misses script old o row.sought effects
-          missed (inl was) = absurd (shut-row row.sought (object_of S o) shut was.0 was.1)
+          missed : Stood S (λ x q. ⊥ ⊎ Died script (boot_in true script) old x q) o row.sought_place → Misses script old o row.sought_place effects
+          missed (inl was) = absurd (shut-row row.sought_place (object_of S o) shut was.0 was.1)
           missed (inr (inl before)) = absurd before
-          missed (inr (inr died)) = record { died = died; told = died-told script (boot_in true script) old o row.sought died; effect = both.1 shut }
+          missed (inr (inr died)) = record { died = died; told = died-told script (boot_in true script) old o row.sought_place died; effect = both.1 shut }
 
   pub comes-back : is_out S t ≡ true → Comes script old S t made.more.entry.effects
   comes-back out = by (thread_of S t) refl
@@ -221,8 +221,8 @@ module _ (script : Script) (old new : List Entry) (t : ObjNo) (valid : IsWellFor
       by (Some row) is =
           let row_returns : is_returning row.part ≡ true = sym (ap (λ (x : Option ThreadRow). is_returning (part_of x)) is) ∙ returns in
           record {
-            object = found_object row;
-            sought = row.sought;
+            object = row.sought;
+            sought = row.sought_place;
             found = seen row is row_returns;
             tells = tells-of row e is row_returns e.effects (ap (λ (x : Entry). x.effects) made.more.told) out;
           }

@@ -10,10 +10,14 @@ use Rattle.state_rows.specs.Deferred.{is_queued, next_of, queue_at, queue_of}
 abbrev pub burial : DfcPlace
 burial = record { queue = 0; priority = 7 }
 
+-- the number of the first burial: calls 0 to 63 are the declared ones, in their order
+abbrev pub first_burial : ℕ
+first_burial = 64
+
 -- The declared calls have the first numbers, and all others are places of burials. Those of the threads have the
--- numbers from 64 on; a number below 64 that no declared call has is used by none.
+-- numbers from the first burial's on; a lower number that no declared call has is used by none.
 abbrev pub places_of : List DfcPlace → ℕ → List DfcPlace
-places_of dfcs burials = dfcs ++ replicate (64 + burials - length dfcs) burial
+places_of dfcs burials = dfcs ++ replicate (first_burial + burials - length dfcs) burial
 
 -- nothing is queued
 abbrev pub new_calls : ℕ → ℕ → List DfcPlace → ℕ → DeferredRows

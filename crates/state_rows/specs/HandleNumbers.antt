@@ -9,7 +9,7 @@ next_instance n = if n == 16383 then 1 else n + 1
 abbrev pub handle_number : Bool → ℕ → ℕ → ℕ
 handle_number local index instance = index + 65536 * instance + (if local then 1073741824 else 0)
 
--- the index in a handle's number
+-- the index in a handle's number: a handle is by its format the number index + 65536 × instance, so the index is what is left of it below 65536
 abbrev pub index_of : ℕ → ℕ
 index_of handle = handle % 65536
 

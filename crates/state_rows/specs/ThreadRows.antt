@@ -20,7 +20,8 @@ new_thread process = record {
   next_instruction = 0;
   part = None;
   found = 0;
-  sought = 0;
+  sought = record { 0 = 0 };
+  sought_place = 0;
   uses = None;
   registers = replicate 8 0;
   messages = replicate 8 0;

@@ -10,7 +10,7 @@ use std::alloc::Global;
 use sym_base::{Items, Name, NoMemory};
 
 /// The number of the first burial: declared deferred function calls have numbers below it.
-const FIRST_BURIAL: usize = 64;
+pub const FIRST_BURIAL: usize = 64;
 
 /// Where burials wait: the supervisor's queue, at the greatest priority.
 const BURIAL: DfcPlace = DfcPlace {
@@ -102,7 +102,7 @@ fn all_places(alloc: Global, script: &Script, burials: usize) -> Result<Items<Df
 }
 
 /// So many empty queues.
-fn empty_queues(alloc: Global, count: usize) -> Result<Items<Items<u8>>, NoMemory>
+fn empty_queues(alloc: Global, count: usize) -> Result<Items<Items<usize>>, NoMemory>
     requires { count ≤ 8 }
     ensures { IfOk result (λ queues. queues ≡ replicate count []) }
 {

@@ -27,5 +27,5 @@ pub struct DeferredRows {
     pub idfcs: u8,
     pub places: Items<DfcPlace>,
     pub immediate: Items<Item>,
-    pub queues: Items<Items<u8>>,
+    pub queues: Items<Items<usize>>,
 }

@@ -13,7 +13,7 @@ mod requests;
 mod servers;
 mod thread;
 
-pub use declared_calls::{calls_of, declared_places, dfc_named, idfc_named};
+pub use declared_calls::{FIRST_BURIAL, calls_of, declared_places, dfc_named, idfc_named};
 pub use deferred::{DeferredRows, DfcPlace, Item};
 pub use duty::{Held, Owed};
 pub use handle_slot::{

@@ -12,12 +12,15 @@ pub struct Owner {
 }
 
 /// What the kernel keeps of mutexes and semaphores (Symbian OS Internals, the chapter on threads and processes), by
-/// object number: the owner of a mutex, the count of a semaphore, and the threads that wait for either, in order of
-/// waiting.
+/// object number: the owner of a mutex, the count of a semaphore, and the threads that wait for either.
 #[derive(Drop)]
 pub struct LockRows {
+    /// Whose each mutex is. The lists of what threads hold have the order of taking beside it (`AreLocks`: `owned` and
+    /// `held`).
     pub owners: Items<Option<Owner>>,
     pub counts: Items<u32>,
+    /// In order of waiting. That a thread waits is said by its own row: whoever stands here waits for the object by its row
+    /// (`AreLocks`: `waiters`).
     pub waiters: Items<Items<ThreadNo>>,
 }
 

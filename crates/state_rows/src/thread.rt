@@ -60,7 +60,7 @@ pub struct ThreadRow {
     pub role: Role,
     /// The process whose handles it uses.
     pub process: ObjNo,
-    /// Its reference to its process, until it is given up.
+    /// Its reference to its process, until it is given up: it never leads elsewhere (`IsThread`: `link`).
     pub link: Option<ObjNo>,
     pub stage: Stage,
     /// None exactly where no exit is set.
@@ -74,11 +74,13 @@ pub struct ThreadRow {
     pub next_instruction: u32,
     /// The next step of its present instruction, None before the first.
     pub part: Option<Part>,
-    /// What the steps of its present instruction found: the number of an object, of a handle, or of bytes that were
-    /// copied. The step to come says which.
+    /// What the steps of its present instruction found: a handle, or a number of bytes that were copied. The step to come
+    /// says which.
     pub found: u32,
-    /// The place of the object that a find found. It is read only while the return comes next.
-    pub sought: u64,
+    /// The object that a find found. It is read only while the return comes next.
+    pub sought: ObjNo,
+    /// The place of that object. Another object may have its number since, which has another place.
+    pub sought_place: u64,
     /// The object that its present instruction uses, to which it has a temporary reference.
     pub uses: Option<ObjNo>,
     /// r0 to r7.
@@ -104,7 +106,8 @@ impl ThreadRow {
             next_instruction: 0,
             part: None,
             found: 0,
-            sought: 0,
+            sought: ObjNo(0),
+            sought_place: 0,
             uses: None,
             registers: [0; REGISTERS],
             messages: [0; REGISTERS],

@@ -5,7 +5,7 @@ ghost use Rattle.machine.specs.Find.{seek_object, seek, is_open, return_to};
 
 use crate::decide::{answer_after, one_move, refuse};
 use entry_log::{Part, Step, Word};
-use machine::{Decision, Move, ThreadRow, found_object};
+use machine::{Decision, Move, ThreadRow};
 use readings::Reads;
 use state_rows::{ObjectRow, Stage};
 use sym_base::{Error, Kind, Name, ObjNo, ThreadNo};
@@ -58,8 +58,8 @@ pub fn return_to<R: Reads>(
     ensures { decision.new ≡ return_to (R.state reads.now) thread row.now word next }
 {
     let step = Step::Of(word, Part::Return);
-    let object = found_object(row);
-    if is_open(row.sought, reads.object(object)) {
+    let object = row.sought;
+    if is_open(row.sought_place, reads.object(object)) {
         return one_move(decision, step, Move::Open(thread, object, next));
     }
     let missed = Move::Miss(thread, object);

@@ -5,4 +5,5 @@ pub mod GoneLogons
 mod NotesKept
 pub mod Noting
 pub mod Owned
+pub mod Places
 pub mod RowsOfThreads

@@ -1,5 +1,6 @@
 -- The rows of threads in the table of threads and processes.
 use Rattle.std.specs.Prelude.{ℕ, List, Option}
+use Rattle.sym_base.specs.declared.number.ObjNo.{ObjNo}
 use Rattle.state_rows.specs.declared.thread.ThreadRow.{ThreadRow}
 use Rattle.procs.specs.ProcsRows.{ProcsRows}
 
@@ -7,6 +8,6 @@ use Rattle.procs.specs.ProcsRows.{ProcsRows}
 abbrev pub with_threads : ProcsRows → List (Option ThreadRow) → ProcsRows
 with_threads rows threads = record rows { threads = threads }
 
--- a thread's row with the place of what its find found
-abbrev pub with_sought : ℕ → ThreadRow → ThreadRow
-with_sought place row = record row { sought = place }
+-- a thread's row with the object that its find found, and its place
+abbrev pub with_sought : ObjNo → ℕ → ThreadRow → ThreadRow
+with_sought object place row = record row { sought = object; sought_place = place }

@@ -16,6 +16,9 @@ use std::alloc::Global;
 use std::marker::Model;
 use sym_base::NoMemory;
 
+/// No call of a script has this number, or a greater one.
+const NUMBERS: usize = 256;
+
 /// The queues of deferred function calls, and how many there are beside the immediate one. A contract sees their rows.
 /// What is past them reads as empty.
 #[derive(Drop)]
@@ -25,18 +28,19 @@ pub struct CallQueues {
 }
 
 impl Model for CallQueues {
-    ghost use Rattle.std.specs.Prelude.{◌≡◌, length};
+    ghost use Rattle.std.specs.Prelude.{◌≡◌, ◌≤◌, ◌×◌, length};
     ghost use Rattle.state_rows.specs.declared.deferred.DeferredRows.{DeferredRows};
 
     ghost Value = { DeferredRows };
 
     ghost view = { λ q. q.calls };
 
-    ghost invariant = { λ q. length q.calls.queues ≡ q.count };
+    ghost invariant = { λ q. (length q.calls.queues ≡ q.count) × (length q.calls.places ≤ 256) };
 }
 
 impl CallQueues {
     /// Nothing is queued, in the supervisor's queue and in each declared one. Each thread has a burial.
+    #[tactic(auto, using(crate::proofs::Places::few_places))]
     pub fn new(alloc: Global, script: &Script) -> Result<CallQueues, NoMemory>
         requires { IsShaped script.now }
         ensures { IfOk result (λ queues. queues ≡ calls_of script.now) }
@@ -55,14 +59,14 @@ impl CallQueues {
     }
 
     /// The call of a queue that runs next.
-    pub fn next_call(&self, queue: u8) -> Option<u8>
+    pub fn next_call(&self, queue: u8) -> Option<usize>
         ensures { result ≡ next_of self.now queue }
     {
-        if queue < self.count {
-            self.calls.first_dfc(queue)
-        } else {
-            None
+        if queue >= self.count {
+            return None;
         }
+        let dfc = self.calls.first_dfc(queue)?;
+        Some(dfc as usize)
     }
 
     /// The oldest item of the immediate queue.
@@ -80,10 +84,14 @@ impl CallQueues {
     }
 
     /// The queue of a deferred function call.
-    pub fn queue_of(&self, dfc: u8) -> u8
+    pub fn queue_of(&self, dfc: usize) -> u8
         ensures { result ≡ queue_of self.now dfc }
     {
-        self.calls.queue_of(dfc)
+        if dfc < NUMBERS {
+            self.calls.queue_of(dfc as u8)
+        } else {
+            0
+        }
     }
 
     /// One move in the queues.
@@ -99,7 +107,7 @@ impl CallQueues {
                 let _ = self.calls.add_from_irq(dfc);
             }
             DeferredMove::Add(dfc, _) => {
-                let _ = self.calls.add(dfc);
+                let _ = self.calls.add(dfc as u8);
             }
             DeferredMove::TakeImmediate => {
                 let _ = self.calls.next_idfc();

@@ -47,12 +47,12 @@ pub fn threads_closed(procs: &mut Procs, last: bool, object: ObjNo)
     }
 }
 
-/// A thread's find found an object of this place.
-fn threads_seek(procs: &mut Procs, thread: ThreadNo, place: u64)
-    ensures { procs.new ≡ with_threads procs.old (with_row procs.old.threads thread (with_sought place)) }
+/// A thread's find found this object, of this place.
+fn threads_seek(procs: &mut Procs, thread: ThreadNo, object: ObjNo, place: u64)
+    ensures { procs.new ≡ with_threads procs.old (with_row procs.old.threads thread (with_sought object place)) }
 {
     if procs.is_thread(thread) {
-        procs.set_sought(thread, place);
+        procs.set_sought(thread, object, place);
     }
 }
 
@@ -60,8 +60,7 @@ fn threads_seek(procs: &mut Procs, thread: ThreadNo, place: u64)
 pub fn threads_find(procs: &mut Procs, thread: ThreadNo, object: ObjNo, place: u64)
     ensures { procs.new ≡ with_threads procs.old (with_row procs.old.threads thread (with_found object place)) }
 {
-    threads_keep(procs, thread, u32::from(object.0));
-    threads_seek(procs, thread, place);
+    threads_seek(procs, thread, object, place);
     threads_go_on(procs, thread, Part::Return);
 }
 

@@ -228,7 +228,7 @@ pub fn flush<R: Reads>(decision: &mut Decision, reads: &R, thread: ThreadNo)
 }
 
 /// A deferred function call joins its own queue.
-pub fn add_call<R: Reads>(reads: &R, dfc: u8) -> Move
+pub fn add_call<R: Reads>(reads: &R, dfc: usize) -> Move
     ensures { result ≡ add_call (R.state reads.now) dfc }
 {
     Move::Deferred(DeferredMove::Add(dfc, reads.queue_of(dfc)))
@@ -244,7 +244,7 @@ fn queue_named<R: Reads>(decision: &mut Decision, reads: &R, thread: ThreadNo, d
     if reads.is_queued(dfc) {
         return answer_at_once(decision, thread, QUEUE, 0);
     }
-    answer_after(decision, thread, QUEUE, add_call(reads, dfc), 1)
+    answer_after(decision, thread, QUEUE, add_call(reads, dfc as usize), 1)
 }
 
 /// The deferred function call of a name joins its queue.

@@ -15,7 +15,7 @@ use Rattle.state_rows.specs.NanoSound.{AreNanoRows}
 use Rattle.state_rows.proofs.Soundness.{sound_new}
 use Rattle.machine.specs.declared.boot.Born.{Born}
 use Rattle.machine.specs.Boot.{boot, boot_of, born, held_count, nano_of}
-use Rattle.machine.specs.Task.{is_stopped}
+use Rattle.machine.specs.Task.{is_live_row, is_stopped}
 use Rattle.machine.specs.WellFormed.{AreSynchronized}
 use Rattle.move_laws.proofs.Lists.Copies.{copy_at}
 
@@ -50,13 +50,14 @@ suspended_at [] i = refl
 suspended_at (b ∷ bs) zero = held_count_is b.held
 suspended_at (b ∷ bs) (suc i) = suspended_at bs i
 
--- a thread is stopped at boot exactly where it is held
+-- a live thread is stopped at boot exactly where it is held
 pub stopped-boot : (reuse : Bool) (pool fast : ℕ) (calls : DeferredRows) (bs : List Born) (t : ObjNo)
-    → is_stopped (boot_of reuse pool fast calls bs) t ≡ is_held_at bs t.0
+    → is_stopped (boot_of reuse pool fast calls bs) t ≡ (is_live_row (get_or (map (λ b. b.thread) bs) t.0 None) && is_held_at bs t.0)
 unfolding boot_of
 stopped-boot reuse pool fast calls bs t =
-    ap (λ (protected : Bool). not (get_or (map held_count bs) t.0 0 == 0) && not protected) (unprotected fast bs t)
-    ∙ (and-true (not (get_or (map held_count bs) t.0 0 == 0)) ∙ suspended_at bs t.0)
+    let live : Bool = is_live_row (get_or (map (λ b. b.thread) bs) t.0 None) in
+    ap (λ (protected : Bool). live && not (get_or (map held_count bs) t.0 0 == 0) && not protected) (unprotected fast bs t)
+    ∙ (and-true (live && not (get_or (map held_count bs) t.0 0 == 0)) ∙ ap (λ (held : Bool). live && held) (suspended_at bs t.0))
 
 held_count_few : (held : Bool) → (if held then 1 else 0) ≤ 127
 held_count_few true = omega arith

@@ -8,7 +8,7 @@ use Rattle.state_rows.specs.declared.object.ObjectRow.{ObjectRow}
 use Rattle.state_rows.specs.declared.thread.ThreadRow.{ThreadRow}
 use Rattle.machine.specs.declared.boot.Born.{Born}
 use Rattle.machine.specs.Boot.{objects_from}
-use Rattle.machine.specs.Out.{found_object, is_returning, seeks}
+use Rattle.machine.specs.Out.{is_returning, seeks}
 use Rattle.machine.specs.References.{same, total}
 use Rattle.machine.specs.WellFormed.{IsAlive, dead_bit, is_dead}
 use Rattle.machine_laws.proofs.AtBoot.Born.{EachBorn, IsNewThread}
@@ -50,8 +50,8 @@ row_seeks : (n : ℕ) (thread : Option ThreadRow) (o : ObjNo) (place : ℕ) → 
     → seeks o place thread ≡ 0
 row_seeks n None o place new = refl
 row_seeks n (Some row) o place new =
-    if_not (is_returning row.part && row.sought == place) (same (found_object row) o)
-    (and_left (is_returning row.part) (row.sought == place) (ap is_returning (new row refl).part))
+    if_not (is_returning row.part && row.sought_place == place) (same row.sought o)
+    (and_left (is_returning row.part) (row.sought_place == place) (ap is_returning (new row refl).part))
 
 pub none_seek : (script : Script) (n : ℕ) (bs : List Born) (o : ObjNo) (place : ℕ) → EachBorn script n bs
     → total (seeks o place) (map (λ b. b.thread) bs) ≡ 0

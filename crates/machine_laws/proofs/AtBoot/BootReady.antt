@@ -12,7 +12,8 @@ use Rattle.machine.specs.Arrivals.{is_listed}
 use Rattle.state_rows.specs.DeclaredCalls.{calls_of}
 use Rattle.machine.specs.Boot.{boot_in, boot_of, born, ready_at_boot, ready_from, uses_again}
 use Rattle.machine.specs.Rows.{first_of, thread_of}
-use Rattle.machine.specs.Task.{task_of, is_waiting, is_waiting_row, is_stopped}
+use Rattle.machine.specs.Task.{task_of, is_live_row, is_unspent, is_unspent_row, is_waiting, is_waiting_row, is_stopped}
+use Rattle.machine.specs.ThreadCalls.{is_live}
 use Rattle.machine.specs.WellFormed.{AreApart, IsReadyList}
 use Rattle.machine_laws.proofs.AtBoot.Born.{IsNewThread, EachBorn, each_born}
 use Rattle.machine_laws.proofs.AtBoot.BootNano.{is_held_at, stopped-boot}
@@ -69,6 +70,24 @@ goes_on shared script n [] i h = refl
 goes_on shared script n (b ∷ bs) zero h = row_goes_on shared n b.thread h.0.row
 goes_on shared script n (b ∷ bs) (suc i) h = goes_on shared script n bs i h.1
 
+-- each thread is live, and what isn't a thread has nothing to do
+record IsLiveAtBoot (script : Script) (thread : Option ThreadRow) : Type 0 where
+  pub live : is_live_row thread ≡ is_unspent_row thread
+  pub works : is_unspent_row thread ≡ false → has_task script (calls_of script) None thread ≡ false
+
+row_lives : (script : Script) (n : ℕ) (thread : Option ThreadRow)
+    → ((row : ThreadRow) → thread ≡ Some row → IsNewThread n row) → IsLiveAtBoot script thread
+row_lives script n None rows = record { live = refl; works = λ _. refl }
+row_lives script n (Some row) rows =
+    let new = rows row refl in
+    record { live = ap is_live new.live ∙ sym (ap is_unspent new.live); works = λ e. let acts = ap is_unspent new.live in absurd (cc) }
+
+lives : (script : Script) (n : ℕ) (bs : List Born) (i : ℕ) → EachBorn script n bs
+    → IsLiveAtBoot script (get_or (map (λ b. b.thread) bs) i None)
+lives script n [] i h = record { live = refl; works = λ _. refl }
+lives script n (b ∷ bs) zero h = row_lives script n b.thread h.0.row
+lives script n (b ∷ bs) (suc i) h = lives script n bs i h.1
+
 owes_nothing : (bs : List Born) (i : ℕ) → ◌≡◌ {A = Option Owed} None (first_of (get_or (map (λ _. []) bs) i []))
 owes_nothing [] i = refl
 owes_nothing (b ∷ bs) zero = refl
@@ -92,8 +111,15 @@ task-boot shared script u =
     task_is script (boot_in shared script) u (thread_of (boot_in shared script) u)
     ∙ ap (λ (first : Option Owed). has_task script (calls_of script) first (get_or (map (λ b. b.thread) bs) u.0 None)) (sym (owes_nothing bs u.0))
 
-ready_is : (waits stopped task held work : Bool) → waits ≡ false → stopped ≡ held → task ≡ work → (not waits && not stopped && task) ≡ (not held && work)
-ready_is waits stopped task held work a b c = ap (λ x. not x && not stopped && task) a ∙ (ap (λ x. not x && task) b ∙ ap (λ x. not held && x) c)
+no_work : (held work : Bool) → work ≡ false → false ≡ (not held && work)
+no_work true work none = refl
+no_work false work none = sym none
+
+ready_is : (acts waits stopped task live held work : Bool) → live ≡ acts → waits ≡ false → stopped ≡ (live && held) → task ≡ work
+    → (acts ≡ false → work ≡ false) → (acts && not waits && not stopped && task) ≡ (not held && work)
+ready_is true waits stopped task live held work a b c d none =
+    ap (λ x. not x && not stopped && task) b ∙ (ap (λ x. not x && task) (c ∙ ap (λ x. x && held) a) ∙ ap (λ x. not held && x) d)
+ready_is false waits stopped task live held work a b c d none = no_work held work (none refl)
 
 -- exactly the threads that have something to do and aren't held are listed, once
 pub ready-boot : (shared : Bool) (script : Script) → IsShaped script → IsReadyList script (boot_in shared script) (ready_at_boot script)
@@ -103,10 +129,12 @@ ready-boot shared script shaped =
     let each = each_born script shaped in
     record {
       exact = λ u. listed_at 0 bs u.0 u (omega arith) ∙ works_is script (length bs) bs u.0 each
-          ∙ sym (ready_is (is_waiting (boot_in shared script) u) (is_stopped (boot_in shared script) u)
-          (is_some (task_of script (boot_in shared script) u)) (is_held_at bs u.0) _
+          ∙ (let there = lives script (length bs) bs u.0 each in
+          sym (ready_is (is_unspent_row (thread_of (boot_in shared script) u)) (is_waiting (boot_in shared script) u)
+          (is_stopped (boot_in shared script) u) (is_some (task_of script (boot_in shared script) u))
+          (is_live_row (thread_of (boot_in shared script) u)) (is_held_at bs u.0) _ there.live
           (goes_on shared script (length bs) bs u.0 each)
           (stopped-boot (uses_again script.version) script.pool script.fast (calls_of script) bs u)
-          (task-boot shared script u));
+          (task-boot shared script u) there.works));
       once = ready_apart 0 bs;
     }

@@ -37,7 +37,7 @@ use Rattle.machine.specs.Bodies.{run_body, run_dfc}
 use Rattle.machine.specs.Decide.{nothing}
 use Rattle.script_types.specs.declared.declaration.DfcDecl.{DfcDecl}
 use Rattle.machine.specs.Steps.{pay, step_of, return_of, decision_of_row, decision_of_task, decision_where, decision_of}
-use Rattle.machine.specs.Task.{instruction, instructions_of, call_task, dying_task, end_task, live_task, next_call, by_stage, pay_or, return_or, step_or_end, work_or, task_of_row, task_of, is_wait, is_waiting_row, is_waiting, is_stopped, is_ready, is_able, may_act}
+use Rattle.machine.specs.Task.{instruction, instructions_of, call_task, dying_task, end_task, live_task, next_call, by_stage, pay_or, return_or, step_or_end, work_or, task_of_row, task_of, is_wait, is_waiting_row, is_ready, is_able, may_act}
 use Rattle.machine.specs.Out.{is_out, is_returning, part_of}
 use Rattle.machine.specs.Fits.{Fits, Sane}
 use Rattle.machine.specs.WellFormed.{AreRows, weight}
@@ -47,7 +47,7 @@ use Rattle.move_laws.proofs.Numbers.Registers.{has_registers, has_names, has_ran
 use Rattle.move_laws.proofs.MoveLaws.Sound.{Sound, sound-none}
 use Rattle.move_laws.proofs.MoveLaws.Run.{each-sound, sound-pay}
 use Rattle.machine_laws.proofs.Fitting.Stepping.{FitsDecision, FitsStep, IsStepping}
-use Rattle.machine_laws.proofs.Fitting.Working.{IsGiven, fits-work}
+use Rattle.machine_laws.proofs.Fitting.ServerEnds.{IsGiven, fits-work}
 use Rattle.machine_laws.proofs.Fitting.KernelThreads.{none_is}
 use Rattle.machine_laws.proofs.Fitting.Bodies.{Goes, goes-light, light-body}
 use Rattle.machine_laws.proofs.Fitting.Regular.{acts, IsRegular, Kinds, kind_given, kind_of, looking, plain}
@@ -55,6 +55,7 @@ use Rattle.machine_laws.proofs.Fitting.Tame.{may_tell, regular-moves, regular-pa
 use Rattle.machine_laws.proofs.Fitting.Dooms.{fits-end, fits-flush}
 use Rattle.machine_laws.proofs.Fitting.Reaping.{IsDying, fits-bury, fits-clean, fits-give_up}
 use Rattle.machine_laws.proofs.Fitting.Instructions.{few, fits-returning, fits-step}
+use Rattle.move_laws.proofs.Readiness.ReadyParts.{ready_parts}
 
 -- the thread pays the oldest of what it owes, and does nothing else
 pub record Pays (S : State) (t : ObjNo) (ms : List Move) : Type 0 where
@@ -122,12 +123,10 @@ waits_not _ out e = absurd (cc)
 able_is : (script : Script) (S : State) (t : ObjNo) (row : ThreadRow) → thread_of S t ≡ Some row → is_able script S t ≡ true → IsAble S t row
 able_is script S t row is able =
     let parts = both (is_ready script S t) (is_none (wanted_holder S.synchronization.nano t)) able in
-    let ready = both (not (is_waiting S t) && not (is_stopped S t)) (is_some (task_of script S t)) parts.0 in
-    let still = both (not (is_waiting S t)) (not (is_stopped S t)) ready.0 in
     record {
       waits =
           waits_not row.waiting (S.mode.shared && is_returning row.part)
-          (sym (ap (λ (r : Option ThreadRow). not (is_waiting_row S.mode.shared r)) is) ∙ still.0);
+          (sym (ap (λ (r : Option ThreadRow). not (is_waiting_row S.mode.shared r)) is) ∙ (ready_parts script S t parts.0).waits);
       free = none_is (wanted_holder S.synchronization.nano t) parts.1;
     }
 

@@ -26,7 +26,7 @@ use Rattle.machine.specs.Handles.{object_at, process_handle, thread_handle}
 use Rattle.machine.specs.Decide.{give_handle}
 use Rattle.machine.specs.Find.{seek, seek_object, find_object, miss, return_to, is_open}
 use Rattle.machine.specs.Moves.{moved, with_missed}
-use Rattle.machine.specs.Out.{found_object, is_returning, part_of}
+use Rattle.machine.specs.Out.{is_returning, part_of}
 use Rattle.machine.specs.Look.{look, look_at}
 use Rattle.machine.specs.ThreadCalls.{is_live}
 use Rattle.machine.specs.Fits.{ComesBack, IsFree, MayMiss, most_told, most_owed}
@@ -36,7 +36,7 @@ use Rattle.move_laws.proofs.Lists.Cases.{if_cases}
 use Rattle.move_laws.proofs.RowLaws.Tables.{free_index_inside, object_of_is}
 use Rattle.machine_laws.proofs.Fitting.Regular.{IsTame, Kinds, finds_by_name, plain}
 use Rattle.machine_laws.proofs.Fitting.Tame.{may_tell, regular-find, regular-miss, regular-open, tame-going}
-use Rattle.machine_laws.proofs.Fitting.Living.{handle_is_counted, open_is_alive, found_counted, found_there}
+use Rattle.machine_laws.proofs.Fitting.LiveObjects.{handle_is_counted, open_is_alive, found_counted, found_there}
 use Rattle.machine_laws.proofs.Fitting.Stepping.{FitsDecision, IsStepping, before_begins, fits-refuse, fits-use, fits-handle, unspent}
 use Rattle.state_rows.specs.declared.thread.Stage.{Stage}
 use Rattle.state_rows.specs.declared.thread.Stage.TheVariants.{Live, Doomed}
@@ -109,28 +109,28 @@ pub fits-return : {k : Kinds} (script : Script) (S : State) (t : ObjNo) (row : T
     → k.uses ≡ true → k.goes ≡ true → AreRows script S → thread_of S t ≡ Some row → is_returning row.part ≡ true
     → is_before_use (Some part) ≡ false → FitsDecision k script t S (return_to S t row word part)
 fits-return {k = k} script S t row word part uses goes rows is returns later =
-    if_cases (FitsDecision k script t S) (is_open row.sought (object_of S (found_object row))) _ _
-    (λ e. let opened = open_is_alive row.sought (object_of S (found_object row)) e in record {
+    if_cases (FitsDecision k script t S) (is_open row.sought_place (object_of S row.sought)) _ _
+    (λ e. let opened = open_is_alive row.sought_place (object_of S row.sought) e in record {
       each = ((record { back = back; alive = opened.0; same = opened.1; later = later }, refl), tt);
       told = omega arith;
       light = omega arith;
-      regular = regular-open t word (found_object row) part uses goes returning;
+      regular = regular-open t word row.sought part uses goes returning;
     })
     (λ e. missed e (is_live row.stage))
   where
-    back : ComesBack S t (found_object row)
+    back : ComesBack S t row.sought
     back = record { row = row; is = is; returns = returns; found = refl }
 
     returning : is_returning (part_of (thread_of S t)) ≡ true
     returning = ap (λ (r : Option ThreadRow). is_returning (part_of r)) is ∙ returns
 
-    there : thread_of (moved t (Miss t (found_object row)) S) t ≡ Some (with_missed row)
+    there : thread_of (moved t (Miss t row.sought) S) t ≡ Some (with_missed row)
     there = row-here S.references.threads t with_missed t.0 refl ∙ ap (option_map with_missed) is
 
-    misses : is_open row.sought (object_of S (found_object row)) ≡ false → MayMiss S t (found_object row)
-    misses e = record { back = back; over = missed_not row.sought (object_of S (found_object row)) e }
+    misses : is_open row.sought_place (object_of S row.sought) ≡ false → MayMiss S t row.sought
+    misses e = record { back = back; over = missed_not row.sought_place (object_of S row.sought) e }
 
-    missed : is_open row.sought (object_of S (found_object row)) ≡ false → (live : Bool) → FitsDecision k script t S (miss t word (found_object row) live)
+    missed : is_open row.sought_place (object_of S row.sought) ≡ false → (live : Bool) → FitsDecision k script t S (miss t word row.sought live)
     missed e true = record {
       each = (
         (misses e, refl),
@@ -145,13 +145,13 @@ fits-return {k = k} script S t row word part uses goes rows is returns later =
       );
       told = omega arith;
       light = omega arith;
-      regular = regular-miss t word (found_object row) true goes returning;
+      regular = regular-miss t word row.sought true goes returning;
     }
     missed e false = record {
       each = ((misses e, refl), tt);
       told = omega arith;
       light = omega arith;
-      regular = regular-miss t word (found_object row) false goes returning;
+      regular = regular-miss t word row.sought false goes returning;
     }
 
 -- a thread of its process isn't cleaned: itself

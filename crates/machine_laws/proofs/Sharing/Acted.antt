@@ -1,6 +1,7 @@
 -- Who is able to act where one caller is alone may act where callers share the kernel, and does the same.
 use Rattle.std.proofs.Common.{◌≡◌, ℕ, List, refl, ap, sym, subst, ◌∙◌, Option, Some, None, Bool, true, false}
 use Rattle.std.specs.Prelude.{◌&&◌, ◌||◌, not, is_none, is_some}
+use Rattle.std.proofs.Math.Bool.{and-true}
 use Rattle.sym_base.specs.declared.number.ObjNo.{ObjNo}
 use Rattle.script_types.specs.declared.script.Script.{Script}
 use Rattle.entry_log.specs.declared.effect.Effect.{Effect}
@@ -22,50 +23,43 @@ use Rattle.machine.specs.Moves.{perform, tell}
 use Rattle.machine.specs.Out.{is_out, is_returning, part_of}
 use Rattle.machine.specs.Rows.{thread_of}
 use Rattle.machine.specs.Steps.{decision_of, decision_of_row, decision_where}
-use Rattle.machine.specs.Task.{is_able, is_stopped, is_wait, is_waiting_row, may_act, task_of}
+use Rattle.machine.specs.Task.{is_able, is_stopped, is_unspent, is_unspent_row, is_wait, is_waiting_row, may_act, task_of}
 use Rattle.machine.specs.Transition.{Transition, act, carried_out}
 use Rattle.machine_laws.proofs.Sharing.Decided.{decided-mode, plan-mode, task-mode}
 use Rattle.machine_laws.proofs.Sharing.Moved.{in_mode, IsAlone, TellsNoDeath, perform-mode, tell-mode}
 
--- who is able where one caller is alone is able where callers share the kernel, unless it is out
-out_bits : (waits returns going has free : Bool)
-    → (not (waits || returns) && going && has && free) ≡ ((not (waits || false) && going && has && free) && not returns)
-out_bits true returns going has free = refl
-out_bits false true true true true = refl
-out_bits false true true true false = refl
-out_bits false true true false free = refl
-out_bits false true false has free = refl
-out_bits false false true true true = refl
-out_bits false false true true false = refl
-out_bits false false true false free = refl
-out_bits false false false has free = refl
+nothing_out : (b : Bool) → false ≡ (b && false)
+nothing_out true = refl
+nothing_out false = refl
 
-unless_out : (going has free : Bool) → (going && has && free) ≡ ((going && has && free) && not false)
-unless_out true true true = refl
-unless_out true true false = refl
-unless_out true false free = refl
-unless_out false has free = refl
+-- who is able where one caller is alone is able where callers share the kernel, unless it is out
+out_bits : (acts waits returns going has free : Bool)
+    → (acts && not (waits || returns) && going && has && free) ≡ ((acts && not (waits || false) && going && has && free) && not returns)
+out_bits false waits returns going has free = refl
+out_bits true waits false going has free = sym (and-true (not (waits || false) && going && has && free))
+out_bits true true true going has free = refl
+out_bits true false true going has free = nothing_out (going && has && free)
 
 module _ (script : Script) (keep : Bool) (S : State) (alone : IsAlone S) where
   shared-not : S.mode.shared ≡ false
   shared-not = alone.0
 
-  abbrev able_with : ObjNo → Bool → Option Task → Bool
-  able_with t waits task = not waits && not (is_stopped S t) && is_some task && is_none (wanted_holder S.synchronization.nano t)
+  abbrev able_with : ObjNo → Option ThreadRow → Bool → Option Task → Bool
+  able_with t row waits task = is_unspent_row row && not waits && not (is_stopped S t) && is_some task && is_none (wanted_holder S.synchronization.nano t)
 
   row-able : (t : ObjNo) (row : Option ThreadRow) (task : Option Task)
-      → able_with t (is_waiting_row true row) task
-      ≡ (able_with t (is_waiting_row false row) task && not (is_returning (part_of row)))
-  row-able t None task = unless_out (not (is_stopped S t)) (is_some task) (is_none (wanted_holder S.synchronization.nano t))
+      → able_with t row (is_waiting_row true row) task
+      ≡ (able_with t row (is_waiting_row false row) task && not (is_returning (part_of row)))
+  row-able t None task = refl
   row-able t (Some row) task =
-      out_bits (is_wait row.waiting) (is_returning row.part) (not (is_stopped S t)) (is_some task)
+      out_bits (is_unspent row.stage) (is_wait row.waiting) (is_returning row.part) (not (is_stopped S t)) (is_some task)
       (is_none (wanted_holder S.synchronization.nano t))
 
   pub able-mode : (t : ObjNo) → is_able script (in_mode true keep S) t ≡ (is_able script S t && not (is_out (in_mode true keep S) t))
   able-mode t =
-      ap (able_with t (is_waiting_row true (thread_of S t))) (task-mode script keep S t)
+      ap (able_with t (thread_of S t) (is_waiting_row true (thread_of S t))) (task-mode script keep S t)
       ∙ row-able t (thread_of S t) (task_of script S t)
-      ∙ ap (λ (shared : Bool). able_with t (is_waiting_row shared (thread_of S t)) (task_of script S t) && not
+      ∙ ap (λ (shared : Bool). able_with t (thread_of S t) (is_waiting_row shared (thread_of S t)) (task_of script S t) && not
       (is_returning (part_of (thread_of S t)))) (sym shared-not)
 
   may-of : (able out : Bool) → able ≡ true → ((able && not out) || out) ≡ true

@@ -24,7 +24,7 @@ use Rattle.machine.specs.Out.{is_returning, part_of}
 use Rattle.machine.specs.Rows.{thread_of}
 use Rattle.machine.specs.Run.{slot_actor}
 use Rattle.machine.specs.SharedRun.{behind_first, is_return, slots_left, slots_taken, IsOfSlot, IsSharedPart, MayTakeSlot, TakesSlots}
-use Rattle.machine.specs.Task.{is_able, is_ready, is_stopped, is_wait, is_waiting, is_waiting_row, task_of}
+use Rattle.machine.specs.Task.{is_able, is_ready, is_wait, is_waiting_row}
 use Rattle.machine.specs.Transition.{act}
 use Rattle.machine.specs.WellFormed.{AreRows, IsWellFormed}
 use Rattle.move_laws.proofs.Readiness.FirstReady.{first_listed}
@@ -32,6 +32,7 @@ use Rattle.move_laws.proofs.Readiness.ReadyHolders.{place_able}
 use Rattle.machine_laws.proofs.Fitting.Actions.{regular-action}
 use Rattle.machine_laws.proofs.Sharing.Losses.{comes-next, keeps-immediate, keeps-interrupt}
 use Rattle.machine_laws.proofs.Reached.Histories.{legal-push}
+use Rattle.move_laws.proofs.Readiness.ReadyParts.{ready_parts}
 
 -- only a thread returns, and only one that is between a find and its return
 abbrev pub IsReturner : State → Actor → Type 0
@@ -72,8 +73,7 @@ back-of waits false returns same e = absurd (cc)
 pub able-back : (script : Script) (S : State) (t : ObjNo) → S.mode.shared ≡ true → is_able script S t ≡ true → is_returning (part_of (thread_of S t)) ≡ false
 able-back script S t shared able =
     let ready = both (is_ready script S t) (is_none (wanted_holder S.synchronization.nano t)) able in
-    let going = both (not (is_waiting S t) && not (is_stopped S t)) (is_some (task_of script S t)) ready.0 in
-    by (thread_of S t) (both (not (is_waiting S t)) (not (is_stopped S t)) going.0).0
+    by (thread_of S t) (ready_parts script S t ready.0).waits
   where
     by : (row : Option ThreadRow) → not (is_waiting_row S.mode.shared row) ≡ true → is_returning (part_of row) ≡ false
     by None still = refl

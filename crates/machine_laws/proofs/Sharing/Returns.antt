@@ -20,7 +20,7 @@ use Rattle.machine.specs.declared.task.Task.{Task}
 use Rattle.machine.specs.Decide.{one_move}
 use Rattle.machine.specs.Find.{is_open, miss, return_to}
 use Rattle.machine.specs.History.{CanAct, transition}
-use Rattle.machine.specs.Out.{found_object, is_returning, part_of}
+use Rattle.machine.specs.Out.{is_returning, part_of}
 use Rattle.machine.specs.Rows.{object_of, thread_of}
 use Rattle.machine.specs.SharedRun.{is_return}
 use Rattle.machine.specs.Steps.{decision_of, decision_of_row, decision_where}
@@ -44,7 +44,7 @@ step-back t o word next false true = refl
 step-back t o word next false false = refl
 
 step-return : (S : State) (t : ObjNo) (row : ThreadRow) (word : Word) (next : Part) → is_return (return_to S t row word next).step ≡ true
-step-return S t row word next = step-back t (found_object row) word next (is_open row.sought (object_of S (found_object row))) (is_live row.stage)
+step-return S t row word next = step-back t row.sought word next (is_open row.sought_place (object_of S row.sought)) (is_live row.stage)
 
 module _ (script : Script) (S : State) (t : ObjNo)
     (at_finds : (row : ThreadRow) → thread_of S t ≡ Some row → is_returning row.part ≡ true

@@ -22,7 +22,7 @@ use Rattle.machine.specs.DeathMoves.{death_row, death_thread}
 use Rattle.machine.specs.Fits.{ComesBack, FitsMove}
 use Rattle.machine.specs.Kept.{dies}
 use Rattle.machine.specs.Moves.{advanced, moved, next_object, threads_closed, threads_gain, threads_lose, unlinked, with_found, with_kept, with_message, with_missed, with_opened, with_part, with_priority, with_register, with_use, with_waiting}
-use Rattle.machine.specs.Out.{found_object, is_returning, seeks}
+use Rattle.machine.specs.Out.{is_returning, seeks}
 use Rattle.machine.specs.References.{same}
 use Rattle.machine.specs.Rows.{object_of, owed_of, thread_of, with_row}
 use Rattle.machine.specs.WellFormed.{AreRows}
@@ -119,8 +119,8 @@ seeks-same script S t m fits u o place stays = refl
 pub unseen : (x : Option ThreadRow) (o : ObjNo) (place : ℕ) → ((row : ThreadRow) → x ≡ Some row → is_returning row.part ≡ false) → seeks o place x ≡ 0
 unseen None o place back = refl
 unseen (Some row) o place back =
-    if_not (is_returning row.part && row.sought == place) (same (found_object row) o)
-    (and_left (is_returning row.part) (row.sought == place) (back row refl))
+    if_not (is_returning row.part && row.sought_place == place) (same row.sought o)
+    (and_left (is_returning row.part) (row.sought_place == place) (back row refl))
 
 -- a payment leaves who is out
 owes_inside : (owed : List (List Owed)) (t : ℕ) (what : Owed) (rest : List Owed) → get_or owed t [] ≡ what ∷ rest → t < length owed
@@ -142,18 +142,19 @@ seeks-pay script S t (Sweep x) rest owes rows u o place =
     (λ at. sym (ap (λ (n : ℕ). seeks o place (get_or S.references.threads n None)) at ∙ none)) refl
 
 -- who is between a find of an object and its return seeks it by its place, and nobody else does
-pub seeks-one : (S : State) (u o : ObjNo) (back : ComesBack S u o) → seeks o back.row.sought (thread_of S u) ≡ 1
+pub seeks-one : (S : State) (u o : ObjNo) (back : ComesBack S u o) → seeks o back.row.sought_place (thread_of S u) ≡ 1
 seeks-one S u o back =
-    ap (seeks o back.row.sought) back.is
-    ∙ if_is (is_returning back.row.part && back.row.sought == back.row.sought) (same (found_object back.row) o)
-    (and_from (is_returning back.row.part) (back.row.sought == back.row.sought) back.returns (eq-eqb back.row.sought back.row.sought refl))
+    ap (seeks o back.row.sought_place) back.is
+    ∙ if_is (is_returning back.row.part && back.row.sought_place == back.row.sought_place) (same back.row.sought o)
+    (and_from (is_returning back.row.part) (back.row.sought_place == back.row.sought_place) back.returns
+    (eq-eqb back.row.sought_place back.row.sought_place refl))
     ∙ ap (λ (x : ObjNo). same x o) back.found
     ∙ same_self o
 
 -- whoever is out on an object of a place
 pub record IsOutAt (S : State) (u o : ObjNo) (place : ℕ) : Type 0 where
   pub back : ComesBack S u o
-  pub sought : back.row.sought ≡ place
+  pub sought : back.row.sought_place ≡ place
 
 out-at : (S : State) (u o : ObjNo) (place : ℕ) (x : Option ThreadRow) → thread_of S u ≡ x → 0 < seeks o place x → IsOutAt S u o place
 out-at S u o place None is some = absurd (omega arith)
@@ -162,19 +163,19 @@ out-at S u o place (Some row) is some =
     record { back = record { row = row; is = is; returns = parts.0; found = parts.2 }; sought = parts.1 }
 
 still-seeking : (S T : State) (u o : ObjNo) (back : ComesBack S u o)
-    → seeks o back.row.sought (thread_of T u) ≡ seeks o back.row.sought (thread_of S u) → IsOutAt T u o back.row.sought
+    → seeks o back.row.sought_place (thread_of T u) ≡ seeks o back.row.sought_place (thread_of S u) → IsOutAt T u o back.row.sought_place
 still-seeking S T u o back stays =
     let one = seeks-one S u o back in
-    out-at T u o back.row.sought (thread_of T u) refl (omega arith)
+    out-at T u o back.row.sought_place (thread_of T u) refl (omega arith)
 
 -- so another thread than the acting one that is out on an object stays so
 pub stays-out : (script : Script) (S : State) (t : ObjNo) (m : Move) → FitsMove script t m S → (u o : ObjNo)
-    → (u.0 ≡ t.0 → ⊥) → (back : ComesBack S u o) → IsOutAt (moved t m S) u o back.row.sought
+    → (u.0 ≡ t.0 → ⊥) → (back : ComesBack S u o) → IsOutAt (moved t m S) u o back.row.sought_place
 stays-out script S t m fits u o apart back =
-    still-seeking S (moved t m S) u o back (seeks-same script S t m fits u o back.row.sought (λ at. absurd (apart (sym at))))
+    still-seeking S (moved t m S) u o back (seeks-same script S t m fits u o back.row.sought_place (λ at. absurd (apart (sym at))))
 
 pub stays-out-pay : (script : Script) (S : State) (t : ObjNo) (what : Owed) (rest : List Owed)
     → owed_of S t ≡ what ∷ rest → AreRows script S → (u o : ObjNo) (back : ComesBack S u o)
-    → IsOutAt (moved t (Pay what) S) u o back.row.sought
+    → IsOutAt (moved t (Pay what) S) u o back.row.sought_place
 stays-out-pay script S t what rest owes rows u o back =
-    still-seeking S (moved t (Pay what) S) u o back (seeks-pay script S t what rest owes rows u o back.row.sought)
+    still-seeking S (moved t (Pay what) S) u o back (seeks-pay script S t what rest owes rows u o back.row.sought_place)

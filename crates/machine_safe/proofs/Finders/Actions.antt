@@ -22,7 +22,7 @@ use Rattle.machine.specs.declared.state.State.{State}
 use Rattle.machine.specs.declared.task.Task.{Task}
 use Rattle.machine.specs.Find.{is_open, miss, return_to}
 use Rattle.machine.specs.Moves.{advanced, perform, tell, with_missed, with_opened}
-use Rattle.machine.specs.Out.{found_object, is_returning, seeks}
+use Rattle.machine.specs.Out.{is_returning, seeks}
 use Rattle.machine.specs.References.{count_of, pluses, same, total}
 use Rattle.machine.specs.Rows.{object_of, thread_of, with_row}
 use Rattle.machine.specs.Steps.{decision_of, decision_of_row, decision_where, return_of}
@@ -35,14 +35,14 @@ use Rattle.move_laws.proofs.Lives.LivesMove.{zero_or}
 use Rattle.move_laws.proofs.Lives.Outs.{seeks_is}
 use Rattle.move_laws.proofs.References.Same.{if_is, same_self}
 use Rattle.machine_laws.proofs.Fitting.Actions.{regular-action}
-use Rattle.machine_laws.proofs.Fitting.Living.{open_is_alive}
+use Rattle.machine_laws.proofs.Fitting.LiveObjects.{open_is_alive}
 use Rattle.machine_laws.proofs.Fitting.Regular.{IsFinding, find_bit, finds_by_name}
 use Rattle.machine_safe.specs.CountAfter.{pluses_by}
 use Rattle.machine_safe.proofs.Finders.Dormant.{finds-tell, plus-doing}
 use Rattle.machine_safe.proofs.Finders.Moves.{seeks-doing, seeks-found, seeks-most}
 use Rattle.machine_laws.proofs.Sharing.Seekers.{unseen}
-use Rattle.machine_safe.proofs.Serving.Doing.{Doing, doing}
-use Rattle.machine_safe.proofs.Serving.Later.{part-after}
+use Rattle.machine_safe.proofs.Serving.ActionMoves.{Doing, doing}
+use Rattle.machine_safe.proofs.Serving.LaterSteps.{part-after}
 
 -- whoever is between a find and its return is at an instruction that finds
 abbrev pub AtFinds : Script → State → Type 0
@@ -53,8 +53,8 @@ pub record IsOutOn (S : State) (u o : ObjNo) (place : ℕ) : Type 0 where
   pub row : ThreadRow
   pub is : thread_of S u ≡ Some row
   pub returns : is_returning row.part ≡ true
-  pub found : found_object row ≡ o
-  pub sought : row.sought ≡ place
+  pub found : row.sought ≡ o
+  pub sought : row.sought_place ≡ place
 
 out-by : (S : State) (u o : ObjNo) (place : ℕ) (x : Option ThreadRow) → thread_of S u ≡ x → 0 < seeks o place x → IsOutOn S u o place
 out-by S u o place None is some = absurd (omega arith)
@@ -69,24 +69,24 @@ out-on S u o place some = out-by S u o place (thread_of S u) refl some
 record Returned (S : State) (t : ObjNo) (row : ThreadRow) (d : Decision) : Type 0 where
   pub back : (x : ThreadRow) → thread_of (perform t d.moves S) t ≡ Some x → is_returning x.part ≡ false
   pub unfound : (o : ObjNo) → finds (tell t d.moves S) o ≡ 0
-  pub opens : is_open row.sought (object_of S (found_object row)) ≡ true → 0 < pluses_by (tell t d.moves S) (Temp t) (found_object row)
-  pub misses : is_open row.sought (object_of S (found_object row)) ≡ false → (x : ObjNo) → pluses (tell t d.moves S) x ≡ 0
+  pub opens : is_open row.sought_place (object_of S row.sought) ≡ true → 0 < pluses_by (tell t d.moves S) (Temp t) row.sought
+  pub misses : is_open row.sought_place (object_of S row.sought) ≡ false → (x : ObjNo) → pluses (tell t d.moves S) x ≡ 0
 
 opened-once : (t o : ObjNo) → 0 < (if t.0 == t.0 then same o o else 0) + 0
 opened-once t o = let own = if_is (t.0 == t.0) (same o o) (eq-eqb t.0 t.0 refl) in let one = same_self o in omega arith
 
 returns-to : (S : State) (t : ObjNo) (row : ThreadRow) (word : Word) (p : Part) → is_returning (Some p) ≡ false → Returned S t row (return_to S t row word p)
 returns-to S t row word p other =
-    if_cases (Returned S t row) (is_open row.sought (object_of S (found_object row))) _ _
+    if_cases (Returned S t row) (is_open row.sought_place (object_of S row.sought)) _ _
     (λ opened. record {
-      back = λ x is. ap is_returning (part-after S.references.threads t (with_opened (found_object row) p) (Some p) (λ r. refl) x is) ∙ other;
+      back = λ x is. ap is_returning (part-after S.references.threads t (with_opened row.sought p) (Some p) (λ r. refl) x is) ∙ other;
       unfound = λ o. refl;
-      opens = λ _. opened-once t (found_object row);
+      opens = λ _. opened-once t row.sought;
       misses = λ shut x. absurd (cc);
     })
     (λ shut. missed shut (is_live row.stage))
   where
-    missed : is_open row.sought (object_of S (found_object row)) ≡ false → (live : Bool) → Returned S t row (miss t word (found_object row) live)
+    missed : is_open row.sought_place (object_of S row.sought) ≡ false → (live : Bool) → Returned S t row (miss t word row.sought live)
     missed shut true = record {
       back = λ x is. ap is_returning (part-after (with_row S.references.threads t with_missed) t advanced None (λ r. refl) x is);
       unfound = λ o. refl;
@@ -130,16 +130,16 @@ returning script S t row at may is returns = by (instruction script row) refl
 
 -- a find puts its thread out
 found-out : (script : Script) (S : State) (t : ObjNo) (ms : List Move) (o : ObjNo) → Doing script S t ms
-    → AreRows script S → ms ≡ Find t o ∷ [] → (place : ℕ)
+    → ms ≡ Find t o ∷ [] → (place : ℕ)
     → seeks o place (thread_of (perform t ms S) t) ≡ (if place_of (object_of S o) == place then same o o else 0)
-found-out script S t ms o does rows is place = ap (λ (l : List Move). seeks o place (thread_of (perform t l S) t)) is ∙ by (subst (Doing script S t) is does)
+found-out script S t ms o does is place = ap (λ (l : List Move). seeks o place (thread_of (perform t l S) t)) is ∙ by (subst (Doing script S t) is does)
   where
     Out : Type 0
     Out = seeks o place (thread_of (perform t (Find t o ∷ []) S) t) ≡ (if place_of (object_of S o) == place then same o o else 0)
 
     by : Doing script S t (Find t o ∷ []) → Out
     by does = elim does as (λ _. Out) [
-      | inl goes ↦ seeks-found script S t t o goes.each.0 rows o place
+      | inl goes ↦ seeks-found script S t t o goes.each.0 o place
       | inr other ↦ elim other as (λ _. Out) [
         | inl pays ↦ let clash = pays.moves in absurd (cc)
         | inr none ↦ absurd (cc)
@@ -168,7 +168,7 @@ module _ (script : Script) (S : State) (t : ObjNo) (shaped : IsShaped script) (r
   found-told o some =
       let told = finds-tell t d.moves S o in
       let moves = (finding o (omega arith)).moves in
-      let out = found-out script S t d.moves o does rows moves (place_of (object_of S o)) in
+      let out = found-out script S t d.moves o does moves (place_of (object_of S o)) in
       let one = if_is (place_of (object_of S o) == place_of (object_of S o)) (same o o)
       (eq-eqb (place_of (object_of S o)) (place_of (object_of S o)) refl) in
       let self = same_self o in omega arith
@@ -180,7 +180,7 @@ module _ (script : Script) (S : State) (t : ObjNo) (shaped : IsShaped script) (r
       let most = seeks-most script S t d.moves does rows o place in
       let told = finds-tell t d.moves S o in
       let moves = (finding o (omega arith)).moves in
-      let out = found-out script S t d.moves o does rows moves place in
+      let out = found-out script S t d.moves o does moves place in
       (omega arith, by (place_of (object_of S o) == place) refl (omega arith))
     where
       by : (b : Bool) → (place_of (object_of S o) == place) ≡ b → 0 < (if b then same o o else 0) → place ≡ place_of (object_of S o)
@@ -235,8 +235,8 @@ module _ (script : Script) (S : State) (t : ObjNo) (shaped : IsShaped script) (r
         let out = out-on S t o (place_of (object_of S o)) some in
         let r = returning script S t out.row at may out.is out.returns in
         subst (λ (x : ObjNo). 0 < pluses_by (tell t d.moves S) (Temp t) x) out.found
-        (r.opens (ap (λ (x : ObjNo). is_open out.row.sought (object_of S x)) out.found
-        ∙ alive-open out.row.sought (object_of S o) alive (sym out.sought)))
+        (r.opens (ap (λ (x : ObjNo). is_open out.row.sought_place (object_of S x)) out.found
+        ∙ alive-open out.row.sought_place (object_of S o) alive (sym out.sought)))
       where
         alive-open : (place : ℕ) (x : Option ObjectRow) → IsAlive x → place_of x ≡ place → is_open place x ≡ true
         alive-open place None alive at = absurd alive
@@ -248,7 +248,7 @@ module _ (script : Script) (S : State) (t : ObjNo) (shaped : IsShaped script) (r
     misses-act o place over some =
         let out = out-on S t o place some in
         (returning script S t out.row at may out.is out.returns).misses
-        (by (found_object out.row) out.row.sought (is_open out.row.sought (object_of S (found_object out.row))) refl
+        (by out.row.sought out.row.sought_place (is_open out.row.sought_place (object_of S out.row.sought)) refl
         (ap (λ (x : ObjNo). object_of S x) out.found) out.sought)
       where
         by : (y : ObjNo) (sought : ℕ) (b : Bool) → is_open sought (object_of S y) ≡ b → object_of S y ≡ object_of S o → sought ≡ place → b ≡ false

@@ -37,7 +37,7 @@ use Rattle.machine.specs.LockMoves.{lock_told}
 use Rattle.machine.specs.MessageMoves.{message_told}
 use Rattle.machine.specs.Moves.{closed_effects, moved, next_object, tell, told}
 use Rattle.machine.specs.NanoMoves.{nano_told}
-use Rattle.machine.specs.Out.{found_object, is_returning, seeks}
+use Rattle.machine.specs.Out.{is_returning, seeks}
 use Rattle.machine.specs.References.{count_of, mutex_names, pluses, same, total}
 use Rattle.machine.specs.RequestMoves.{request_told}
 use Rattle.machine.specs.Rows.{object_of, thread_of}
@@ -57,7 +57,7 @@ use Rattle.machine_laws.proofs.Sharing.Told.{is_beside, tell-is, told_by, total-
 use Rattle.move_laws.proofs.MoveLaws.Run.{sound-move}
 use Rattle.machine_safe.proofs.Finders.Moves.{seeks-le}
 use Rattle.machine_laws.proofs.Sharing.Seekers.{turning_bit}
-use Rattle.machine_safe.proofs.Serving.Doing.{Doing, IsGoing, going-then}
+use Rattle.machine_safe.proofs.Serving.ActionMoves.{Doing, IsGoing, going-then}
 
 -- finds are told by moves that find, and by them alone
 abbrev found_by : ObjNo → Effect → ℕ
@@ -165,12 +165,12 @@ module _ (script : Script) (S : State) (t : ObjNo) (rows : AreRows script S) (o 
       let here : x ≡ o = same_is x o (omega arith) in
       let back = fits.0.back in
       let place = place_of (object_of S o) in
-      let sought : back.row.sought ≡ place = sym fits.0.same ∙ ap (λ (y : ObjNo). place_of (object_of S y)) here in
+      let sought : back.row.sought_place ≡ place = sym fits.0.same ∙ ap (λ (y : ObjNo). place_of (object_of S y)) here in
       let out : seeks o place (thread_of S t) ≡ same x o =
       ap (λ (y : ObjNo). seeks o place (thread_of S y)) (sym fits.1)
       ∙ ap (seeks o place) back.is
-      ∙ if_is (is_returning back.row.part && back.row.sought == place) (same (found_object back.row) o)
-      (and_from (is_returning back.row.part) (back.row.sought == place) back.returns (eq-eqb back.row.sought place sought))
+      ∙ if_is (is_returning back.row.part && back.row.sought_place == place) (same back.row.sought o)
+      (and_from (is_returning back.row.part) (back.row.sought_place == place) back.returns (eq-eqb back.row.sought_place place sought))
       ∙ ap (λ (y : ObjNo). same y o) back.found in
       let gone = away (omega arith) in omega arith)
   plus-none (Nano m) fits away = plus-nano m o
@@ -197,7 +197,7 @@ plus-going script S t (m ∷ ms) h o alive none unfound away =
     let unswept = zero_or (removals (told m S) o)
     (λ some. let swept = lives.removes o some in let undead_now = alive_undead (object_of S o) alive in omega arith) in
     let place = (lives.there o there unswept).1 in
-    let out = seeks-le script S t m h.each.0 h.sane.rows o (place_of (object_of S o)) in
+    let out = seeks-le script S t m h.each.0 o (place_of (object_of S o)) in
     let rest = plus-going script (moved t m S) t ms (going-then script S t m ms h) o (lives.stays o alive undead) (omega arith)
     (omega arith) (λ some. let gone = away (omega arith) in
     ap (λ (n : ℕ). seeks o n (thread_of (moved t m S) t)) place

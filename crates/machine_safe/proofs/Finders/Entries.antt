@@ -23,7 +23,7 @@ use Rattle.machine.specs.Boot.{born, boot_in, boot_of}
 use Rattle.machine.specs.History.{CanAct, next, transition}
 use Rattle.machine.specs.Interrupts.{done_by, immediate, immediate_plan, interrupt, supervisor}
 use Rattle.machine.specs.Moves.{perform, tell, with_found}
-use Rattle.machine.specs.Out.{found_object, is_returning, seeks}
+use Rattle.machine.specs.Out.{is_returning, seeks}
 use Rattle.machine.specs.References.{count_of, pluses, same, total}
 use Rattle.machine.specs.Rows.{object_of, thread_of}
 use Rattle.machine.specs.Steps.{decision_of}
@@ -42,8 +42,8 @@ use Rattle.machine_safe.proofs.Finders.Actions.{AtFinds, dormant-act, finding, m
 use Rattle.machine_safe.proofs.Finders.Dormant.{finds-tell, plus-doing}
 use Rattle.machine_safe.proofs.Finders.Moves.{seeks-doing, turning-none}
 use Rattle.machine_laws.proofs.Sharing.Seekers.{unseen}
-use Rattle.machine_safe.proofs.Serving.Doing.{Doing, doing, doing-by}
-use Rattle.machine_safe.proofs.Serving.Others.{carries-each, midway-pay, same-instruction, WasMidway}
+use Rattle.machine_safe.proofs.Serving.ActionMoves.{Doing, doing, doing-by}
+use Rattle.machine_safe.proofs.Serving.OtherThreads.{carries-each, midway-pay, same-instruction, WasMidway}
 
 -- what an action tells of who is out, and does to it
 pub record Turns (script : Script) (S T : State) (actor : Actor) (effects : List Effect) : Type 0 where
@@ -165,6 +165,7 @@ midway-doing script S t ms does u row stays later is = elim does as (λ _. WasMi
           part = refl;
           found = refl;
           sought = refl;
+          sought_place = refl;
           uses = refl;
           live = λ e. e;
         }
@@ -202,15 +203,15 @@ at-own : (script : Script) (S : State) (t : ObjNo) → IsShaped script → AreRo
     → thread_of (perform t (decision_of script S t).moves S) t ≡ Some row → is_returning row.part ≡ true
     → finds_by_name (instruction script row) ≡ true
 at-own script S t shaped rows at able row is returns =
-    let o = found_object row in
+    let o = row.sought in
     let place = place_of (object_of S o) in
     let ms = (decision_of script S t).moves in
-    let out : seeks o row.sought (thread_of (perform t ms S) t) ≡ same o o =
-    ap (seeks o row.sought) is
-    ∙ if_is (is_returning row.part && row.sought == row.sought) (same o o)
-    (and_from (is_returning row.part) (row.sought == row.sought) returns (eq-eqb row.sought row.sought refl)) in
+    let out : seeks o row.sought_place (thread_of (perform t ms S) t) ≡ same o o =
+    ap (seeks o row.sought_place) is
+    ∙ if_is (is_returning row.part && row.sought_place == row.sought_place) (same o o)
+    (and_from (is_returning row.part) (row.sought_place == row.sought_place) returns (eq-eqb row.sought_place row.sought_place refl)) in
     let one = same_self o in
-    let told = own-sought script S t shaped rows at able o row.sought (omega arith) in
+    let told = own-sought script S t shaped rows at able o row.sought_place (omega arith) in
     let some = told.0 in
     let bits = finds-tell t ms S o in
     let f = finding script S t shaped rows o (omega arith) in

@@ -10,17 +10,16 @@ use Rattle.machine.specs.declared.moves.Move.TheVariants.{Find, Miss, Open}
 use Rattle.machine.specs.declared.state.State.{State}
 use Rattle.machine.specs.Fits.{EachFits, FitsMove}
 use Rattle.machine.specs.Moves.{moved, perform, with_found, with_missed, with_opened}
-use Rattle.machine.specs.Out.{found_object, is_returning, seeks}
+use Rattle.machine.specs.Out.{is_returning, seeks}
 use Rattle.machine.specs.References.{same, total}
 use Rattle.machine.specs.Rows.{object_of, thread_of, with_row}
 use Rattle.machine.specs.WellFormed.{AreRows}
 use Rattle.move_laws.proofs.Holders.ThreadRows.{row-here}
-use Rattle.move_laws.proofs.Lives.Bits.{there_inside}
-use Rattle.move_laws.proofs.References.Same.{if_le, same_object}
+use Rattle.move_laws.proofs.References.Same.{if_le}
 use Rattle.machine_laws.proofs.Sharing.Seekers.{turning_bit, seeks-same, seeks-pay, unseen}
 use Rattle.machine_laws.proofs.Fitting.Regular.{find_bit, going_bit}
 use Rattle.machine_laws.proofs.Fitting.Stepping.{later_other}
-use Rattle.machine_safe.proofs.Serving.Doing.{Doing, IsGoing, going-then}
+use Rattle.machine_safe.proofs.Serving.ActionMoves.{Doing, IsGoing, going-then}
 
 -- this is one of those by which a thread goes on
 turning-le : (m : Move) → turning_bit m ≤ going_bit m
@@ -39,34 +38,29 @@ changed : (threads : List (Option ThreadRow)) (v : ObjNo) (f : ThreadRow → Thr
 changed threads v f t row own is = row-here threads v f t.0 (ap (λ (x : ObjNo). x.0) own) ∙ ap (option_map f) is
 
 -- who finds an object is out on it then, by its place
-pub seeks-found : (script : Script) (S : State) (t v x : ObjNo) → FitsMove script t (Find v x) S → AreRows script S
-    → (o : ObjNo) (place : ℕ)
+pub seeks-found : (script : Script) (S : State) (t v x : ObjNo) → FitsMove script t (Find v x) S → (o : ObjNo) (place : ℕ)
     → seeks o place (thread_of (moved t (Find v x) S) t) ≡ (if place_of (object_of S x) == place then same x o else 0)
-seeks-found script S t v x fits rows o place =
+seeks-found script S t v x fits o place =
     let may = fits.0 in
-    let inside = there_inside S.references.objects x.0 may.object in
-    let few = rows.references.sized.objects_few in
-    let p = place_of (object_of S x) in
-    ap (seeks o place) (changed S.references.threads v (with_found x p) t may.row fits.1 may.is)
-    ∙ ap (λ (y : ObjNo). if p == place then same y o else 0) (same_object (found_object (with_found x p may.row)) x (omega arith))
+    ap (seeks o place) (changed S.references.threads v (with_found x (place_of (object_of S x))) t may.row fits.1 may.is)
 
 -- the acting thread comes to be out by a find alone
-pub seeks-le : (script : Script) (S : State) (t : ObjNo) (m : Move) → FitsMove script t m S → AreRows script S
-    → (o : ObjNo) (place : ℕ) → seeks o place (thread_of (moved t m S) t) ≤ seeks o place (thread_of S t) + find_bit o m
-seeks-le script S t (Find v x) fits rows o place =
-    let found = seeks-found script S t v x fits rows o place in
+pub seeks-le : (script : Script) (S : State) (t : ObjNo) (m : Move) → FitsMove script t m S → (o : ObjNo) (place : ℕ)
+    → seeks o place (thread_of (moved t m S) t) ≤ seeks o place (thread_of S t) + find_bit o m
+seeks-le script S t (Find v x) fits o place =
+    let found = seeks-found script S t v x fits o place in
     let few = if_le (place_of (object_of S x) == place) (same x o) in omega arith
-seeks-le script S t (Open v x part) fits rows o place =
+seeks-le script S t (Open v x part) fits o place =
     let back = fits.0.back in
     let away = unseen (Some (with_opened x part back.row)) o place
     (λ row is. let e : with_opened x part back.row ≡ row = cc in
     ap (λ (r : ThreadRow). is_returning r.part) (sym e) ∙ later_other (Some part) fits.0.later) in
     let gone = ap (seeks o place) (changed S.references.threads v (with_opened x part) t back.row fits.1 back.is) in
     omega arith
-seeks-le script S t (Miss v x) fits rows o place =
+seeks-le script S t (Miss v x) fits o place =
     let back = fits.0.back in
     let gone = ap (seeks o place) (changed S.references.threads v with_missed t back.row fits.1 back.is) in omega arith
-seeks-le script S t m fits rows o place = let stays = seeks-same script S t m fits t o place (λ _. refl) in omega arith
+seeks-le script S t m fits o place = let stays = seeks-same script S t m fits t o place (λ _. refl) in omega arith
 
 -- an action leaves it of other threads, and of its own, where it doesn't find or come back
 seeks-each : (script : Script) (S : State) (t : ObjNo) (ms : List Move) → EachFits script t ms S → (u o : ObjNo) (place : ℕ)
@@ -80,7 +74,7 @@ seeks-going : (script : Script) (S : State) (t : ObjNo) (ms : List Move) → IsG
     → seeks o place (thread_of (perform t ms S) t) ≤ seeks o place (thread_of S t) + total (find_bit o) ms
 seeks-going script S t [] h o place = omega arith
 seeks-going script S t (m ∷ ms) h o place =
-    let first = seeks-le script S t m h.each.0 h.sane.rows o place in
+    let first = seeks-le script S t m h.each.0 o place in
     let rest = seeks-going script (moved t m S) t ms (going-then script S t m ms h) o place in omega arith
 
 pub seeks-doing : (script : Script) (S : State) (t : ObjNo) (ms : List Move) → Doing script S t ms → AreRows script S

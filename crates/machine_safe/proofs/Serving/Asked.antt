@@ -21,7 +21,6 @@ use Rattle.machine.specs.Find.{find_object, findable}
 use Rattle.machine.specs.Handles.{object_at}
 use Rattle.machine.specs.Look.{is_of_kind, of_kind}
 use Rattle.machine.specs.Moves.{perform, with_found}
-use Rattle.machine.specs.Out.{found_object}
 use Rattle.machine.specs.References.{count_of}
 use Rattle.machine.specs.Rows.{object_of}
 use Rattle.machine.specs.WellFormed.{AreRows}
@@ -29,8 +28,6 @@ use Rattle.machine.specs.declared.moves.Move.TheVariants.{Find}
 use Rattle.machine.specs.declared.state.State.{State}
 use Rattle.machine_safe.proofs.Serving.Course.{AsksOf, FoundOf, IsMet, IsOfKind, IsUnset}
 use Rattle.machine_safe.proofs.Serving.Proper.{is_kind}
-use Rattle.move_laws.proofs.Lives.Bits.{there_inside}
-use Rattle.move_laws.proofs.References.Same.{same_object}
 
 module _ (script : Script) (S : State) (t : ObjNo) (old : ThreadRow) (rows : AreRows script S) where
   abbrev OfKind : Kind → ObjNo → Type 0
@@ -142,20 +139,12 @@ module _ (script : Script) (S : State) (t : ObjNo) (old : ThreadRow) (rows : Are
   }
 
   -- and the returns of an open and of a connect
-  found-place : (k : Kind) (o : ObjNo) → OfKind k o → found_object (with_found o (place_of (object_of S o)) old) ≡ o
-      → FoundOf S k (place_of (object_of S o)) (found_object (with_found o (place_of (object_of S o)) old))
-  found-place k o is_one own = subst (FoundOf S k (place_of (object_of S o))) (sym own)
-      (record { made = by (object_of S o) refl is_one.there; kind = λ row is same. is_one.kind row is })
+  found-place : (k : Kind) (o : ObjNo) → OfKind k o → FoundOf S k (place_of (object_of S o)) o
+  found-place k o is_one = record { made = by (object_of S o) refl is_one.there; kind = λ row is same. is_one.kind row is }
     where
       by : (x : Option ObjectRow) → object_of S o ≡ x → is_some x ≡ true → place_of x < S.references.made
       by None at some = absurd (cc)
       by (Some row) at some = rows.references.places.below o.0 row at
-
-  found-number : (k : Kind) (o : ObjNo) → OfKind k o → found_object (with_found o (place_of (object_of S o)) old) ≡ o
-  found-number k o is_one =
-      let within = there_inside S.references.objects o.0 is_one.there in
-      let few = rows.references.sized.objects_few in
-      same_object (found_object (with_found o (place_of (object_of S o)) old)) o (omega arith)
 
   pub asks-opened : (k : Kind) (name : List ℕ) (x : ℕ) (o : ObjNo) → find_object S k name ≡ Some o
       → IsMet (perform t (Find t o ∷ []) S) t (with_found o (place_of (object_of S o)) old) (instr.Open k name x) (Some part.Return)
@@ -166,8 +155,7 @@ module _ (script : Script) (S : State) (t : ObjNo) (old : ThreadRow) (rows : Are
         wanted = λ is. absurd (cc);
         used = λ j u is used. absurd (cc);
         found = λ j is. let same : k ≡ j = cc in
-            subst (λ (z : Kind). FoundOf S z (place_of (object_of S o)) (found_object (with_found o (place_of (object_of S o)) old))) same
-            (found-place k o is_one (found-number k o is_one));
+            subst (λ (z : Kind). FoundOf S z (place_of (object_of S o)) o) same (found-place k o is_one);
         owned = λ u is used. absurd (cc);
         came = λ u is used. absurd (cc);
       }
@@ -181,8 +169,7 @@ module _ (script : Script) (S : State) (t : ObjNo) (old : ThreadRow) (rows : Are
         wanted = λ is. absurd (cc);
         used = λ k u is used. absurd (cc);
         found = λ k is. let same : kind.Server ≡ k = cc in
-            subst (λ (z : Kind). FoundOf S z (place_of (object_of S o)) (found_object (with_found o (place_of (object_of S o)) old))) same
-            (found-place kind.Server o is_server (found-number kind.Server o is_server));
+            subst (λ (z : Kind). FoundOf S z (place_of (object_of S o)) o) same (found-place kind.Server o is_server);
         owned = λ u is used. absurd (cc);
         came = λ u is used. absurd (cc);
       }

@@ -9,9 +9,10 @@ use Rattle.state_rows.specs.declared.thread.Waiting.{Waiting}
 use Rattle.state_rows.specs.declared.thread.Waiting.TheVariants as waiting
 use Rattle.machine.specs.Out.{is_out, is_returning, part_of}
 use Rattle.machine.specs.Rows.{thread_of}
-use Rattle.machine.specs.Task.{is_able, is_ready, is_stopped, is_wait, is_waiting, is_waiting_row, may_act, task_of}
+use Rattle.machine.specs.Task.{is_able, is_ready, is_wait, is_waiting_row, may_act}
 use Rattle.machine.specs.declared.state.State.{State}
 use Rattle.std.proofs.lemmas.Bool.{and_parts}
+use Rattle.move_laws.proofs.Readiness.ReadyParts.{ready_parts}
 
 waits-not : (what : Waiting) (out : Bool) → not (is_wait what || out) ≡ true → what ≡ waiting.Nothing
 waits-not waiting.Nothing out e = refl
@@ -24,10 +25,8 @@ awake script S t row here may going = by (is_able script S t) refl
     by : (able : Bool) → is_able script S t ≡ able → row.waiting ≡ waiting.Nothing
     by true e =
         let able = and_parts (is_ready script S t) (is_none (wanted_holder S.synchronization.nano t)) e in
-        let ready = and_parts (not (is_waiting S t) && not (is_stopped S t)) (is_some (task_of script S t)) able.0 in
-        let still = and_parts (not (is_waiting S t)) (not (is_stopped S t)) ready.0 in
         waits-not row.waiting (S.mode.shared && is_returning row.part)
-        (sym (ap (λ (r : Option ThreadRow). not (is_waiting_row S.mode.shared r)) here) ∙ still.0)
+        (sym (ap (λ (r : Option ThreadRow). not (is_waiting_row S.mode.shared r)) here) ∙ (ready_parts script S t able.0).waits)
     by false e =
         let out : is_out S t ≡ true = ap (λ (b : Bool). b || is_out S t) (sym e) ∙ may in
         let back = and_parts S.mode.shared (is_returning (part_of (thread_of S t))) out in

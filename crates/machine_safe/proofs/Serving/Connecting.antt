@@ -1,12 +1,11 @@
 -- The handle that a `connect` keeps from the step that makes its session on is in the thread's own table, and of no server.
 use Rattle.state_rows.specs.ObjectRows.{place_of}
-use Rattle.machine_safe.proofs.Serving.Owning.{Owned}
-use Rattle.machine_safe.proofs.Serving.Proceeding.{IsProperly}
-use Rattle.machine_safe.proofs.Serving.Unserved.{none-each, server-joined, slot_made}
-use Rattle.machine_safe.proofs.Serving.Later.{Facts, FactThen, IsFact, StepsGive, answered-fact, boot-fact, early-fact, idle-fact, next-fact, other-fact, part-after}
+use Rattle.machine_safe.proofs.Serving.ServerOwners.{Owned}
+use Rattle.machine_safe.proofs.Serving.NextActions.{IsProperly}
+use Rattle.machine_safe.proofs.Serving.NoServers.{none-each, server-joined, slot_made}
+use Rattle.machine_safe.proofs.Serving.LaterSteps.{Facts, FactThen, IsFact, StepsGive, answered-fact, boot-fact, early-fact, idle-fact, next-fact, other-fact, part-after}
 use Rattle.state_rows.specs.declared.duty.Owed.TheVariants as duty
 use Rattle.machine.specs.Find.{is_open, miss, seek_object, find_object}
-use Rattle.machine.specs.Out.{found_object}
 use Rattle.machine.specs.Decide.{nothing, one_move}
 use Rattle.std.proofs.Common.{eq-eqb, Bool, List, None, Option, Some, [], ap, arith, false, get_or, refl, subst, sym, true, ℕ, ℤ, ◌+◌, ◌*◌, ◌<◌, ◌∙◌, ◌∷◌, ◌≡◌, length, not, le-ltb, get_or-set_same, pos}
 use Rattle.std.specs.Prelude.{if◌then◌else◌, is_some, slice_set}
@@ -37,7 +36,7 @@ use Rattle.machine_laws.proofs.Fitting.Actions.{FitsAction}
 use Rattle.script_types.specs.declared.instruction.Instr.TheVariants as instr
 use Rattle.entry_log.specs.declared.step.Part.TheVariants as part
 use Rattle.machine.specs.declared.moves.Move.TheVariants.{Servers, Pay, GoOn, Wait, Messages, Open}
-use Rattle.machine_safe.proofs.Serving.Others.{Carries, carries-each}
+use Rattle.machine_safe.proofs.Serving.OtherThreads.{Carries, carries-each}
 use Rattle.entry_log.specs.declared.effect.Holder.TheVariants.{InThread}
 use Rattle.state_rows.specs.declared.handle_slot.HandleSlot.{HandleSlot}
 use Rattle.machine.specs.declared.server_move.ServerMove.TheVariants.{SetOpen}
@@ -60,7 +59,7 @@ use Rattle.entry_log.specs.declared.step.Step.TheVariants.{Of}
 use Rattle.machine.specs.declared.message_move.MessageMove.TheVariants.{Accept}
 use Rattle.state_rows.specs.MessageChanges.{new_row}
 use Rattle.state_rows.specs.declared.messages.Way.TheVariants.{Sync}
-use Rattle.machine_laws.proofs.Fitting.Posting.{tame-wake}
+use Rattle.machine_laws.proofs.Fitting.SentMessages.{tame-wake}
 use Rattle.entry_log.specs.declared.entry.Actor.{Actor}
 use Rattle.machine.specs.History.{next}
 use Rattle.machine.specs.Boot.{boot_in}
@@ -324,17 +323,17 @@ module _ (script : Script) (S : State) (t : ObjNo) (rows : AreRows script S) (ow
   return-kept : (old : ThreadRow) (i : Instr) → thread_of S t ≡ Some old → instruction script old ≡ Some i
       → FitsAction looking script S t (return_of S t old i) → KeptThen (return_of S t old i)
   return-kept old (instr.Connect name slots x) here at fits =
-      let o = found_object old in
-      if_cases (λ (d : Decision). FitsAction looking script S t d → KeptThen d) (is_open old.sought (object_of S o)) _ _
+      let o = old.sought in
+      if_cases (λ (d : Decision). FitsAction looking script S t d → KeptThen d) (is_open old.sought_place (object_of S o)) _ _
       (λ _ f. early-kept (one_move (Of word.Connect part.Return) (Open t o part.Make)) (Some part.Make)
       (λ row is. part-after S.references.threads t (with_opened o part.Make) (Some part.Make) (λ r. refl) row is)
       kept-make)
       (λ _ f. missed (is_live old.stage) f) fits
     where
-      missed : (live : Bool) → FitsAction looking script S t (miss t word.Connect (found_object old) live)
-          → KeptThen (miss t word.Connect (found_object old) live)
-      missed true f = answered-kept (miss t word.Connect (found_object old) true) _ refl f
-      missed false f = early-kept (miss t word.Connect (found_object old) false) None
+      missed : (live : Bool) → FitsAction looking script S t (miss t word.Connect old.sought live)
+          → KeptThen (miss t word.Connect old.sought live)
+      missed true f = answered-kept (miss t word.Connect old.sought true) _ refl f
+      missed false f = early-kept (miss t word.Connect old.sought false) None
           (λ row is. part-after S.references.threads t with_missed None (λ r. refl) row is) kept-none
   return-kept old i here at fits = other-kept (return_of S t old i) old i here at (λ q. refl) fits
 

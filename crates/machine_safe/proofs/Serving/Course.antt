@@ -29,7 +29,6 @@ use Rattle.state_rows.specs.declared.servers.ServerRow.{ServerRow}
 use Rattle.state_rows.specs.Requests.{is_pending}
 use Rattle.machine.specs.SessionCalls.{session_made}
 use Rattle.machine.specs.declared.moves.Move.TheVariants.{GoOn}
-use Rattle.machine.specs.Out.{found_object}
 use Rattle.entry_log.specs.declared.effect.Holder.TheVariants.{Temp}
 use Rattle.machine_safe.proofs.Serving.Connecting.{keeps_handle}
 use Rattle.state_rows.specs.Nano.{want_of}
@@ -191,7 +190,7 @@ pub record Met (S : State) (t : ObjNo) (row : ThreadRow) (i : Instr) (p : Option
   pub unset : (s : ℕ) → sets_status i p ≡ Some s → IsUnset S.synchronization.requests t s
   pub wanted : wants_at i p ≡ true → is_some (want_of S.synchronization.nano t) ≡ true
   pub used : (k : Kind) (o : ObjNo) → kind_used i p ≡ Some k → row.uses ≡ Some o → IsOfKind S.references.objects k o
-  pub found : (k : Kind) → kind_found i p ≡ Some k → FoundOf S k row.sought (found_object row)
+  pub found : (k : Kind) → kind_found i p ≡ Some k → FoundOf S k row.sought_place row.sought
   pub owned : (o : ObjNo) → receiving (Some i) p ≡ true → row.uses ≡ Some o → owner_of S.serving.servers o ≡ Some t
   pub came : (o : ObjNo) → takes_at i p ≡ true → row.uses ≡ Some o → HasCome S row o
 

@@ -14,7 +14,7 @@ use Rattle.machine_safe.proofs.Serving.ProperLists.{proper-doom, proper-doom_whe
 use Rattle.sym_base.specs.declared.error.Error.TheVariants.{InUse, Overflow, General}
 use Rattle.sym_base.specs.declared.word.Word.TheVariants as word
 use Rattle.state_rows.specs.declared.thread.Waiting.TheVariants as waiting
-use Rattle.machine_safe.proofs.Serving.Later.{part-after}
+use Rattle.machine_safe.proofs.Serving.LaterSteps.{part-after}
 use Rattle.state_rows.specs.declared.object.ObjectRow.{ObjectRow}
 use Rattle.std.proofs.Common.{Bool, None, Option, Some, ap, false, not, refl, subst, sym, true, ℕ, ◌∙◌, ◌∷◌, ◌≡◌, []}
 use Rattle.std.proofs.lemmas.Bool.{and_parts, eqb-true}
@@ -49,7 +49,6 @@ use Rattle.state_rows.specs.Requests.{is_pending}
 use Rattle.machine.specs.SessionCalls.{session_made, args_of}
 use Rattle.machine.specs.declared.moves.Move.TheVariants.{Open}
 use Rattle.machine.specs.Find.{find_object, seek, miss, return_to, is_open}
-use Rattle.machine.specs.Out.{found_object}
 use Rattle.machine.specs.Steps.{step_of, return_of}
 use Rattle.state_rows.specs.Nano as nano
 use Rattle.state_rows.specs.Requests as requests
@@ -252,29 +251,30 @@ module _ (script : Script) (S : State) (t : ObjNo) (old : ThreadRow) (here : thr
   missed w o false = comes refl (tt, tt) (λ row is. part-after S.references.threads t with_missed None (λ r. refl) row is)
 
   returns-to : {i : Instr} {p : Option Part} (w : Word) (to : Part) → has_step i to ≡ true
-      → (is_open old.sought (object_of S (found_object old)) ≡ true → IsMet S t old i p
-      → IsMet (perform t (Open t (found_object old) to ∷ []) S) t (with_opened (found_object old) to old) i (Some to))
+      → (is_open old.sought_place (object_of S old.sought) ≡ true → IsMet S t old i p
+      → IsMet (perform t (Open t old.sought to ∷ []) S) t (with_opened old.sought to old) i (Some to))
       → Course script S t old i p (return_to S t old w to)
   returns-to {i} {p} w to has met =
-      if_cases (Course script S t old i p) (is_open old.sought (object_of S (found_object old)))
-      (one_move (Of w part.Return) (Open t (found_object old) to)) (miss t w (found_object old) (is_live old.stage))
+      if_cases (Course script S t old i p) (is_open old.sought_place (object_of S old.sought))
+      (one_move (Of w part.Return) (Open t old.sought to)) (miss t w old.sought (is_live old.stage))
       (λ opens. goes to has refl refl (tt, tt) (on-one script S t old here rows i to
-      (with_opened (found_object old) to) refl (λ _. refl) (λ own had. met opens had)))
-      (λ _. missed w (found_object old) (is_live old.stage))
+      (with_opened old.sought to) refl (λ _. refl) (λ own had. met opens had)))
+      (λ _. missed w old.sought (is_live old.stage))
 
   -- what is opened is the object that was found
-  opened-kind : (k : Kind) → is_open old.sought (object_of S (found_object old)) ≡ true → FoundOf S k old.sought (found_object old)
-      → IsOfKind S.references.objects k (found_object old)
-  opened-kind k opens was = by (object_of S (found_object old)) refl opens
+  opened-kind : (k : Kind) → is_open old.sought_place (object_of S old.sought) ≡ true → FoundOf S k old.sought_place old.sought
+      → IsOfKind S.references.objects k old.sought
+  opened-kind k opens was = by (object_of S old.sought) refl opens
     where
-      by : (x : Option ObjectRow) → object_of S (found_object old) ≡ x → is_open old.sought x ≡ true
-          → IsOfKind S.references.objects k (found_object old)
+      by : (x : Option ObjectRow) → object_of S old.sought ≡ x → is_open old.sought_place x ≡ true
+          → IsOfKind S.references.objects k old.sought
       by None at e = absurd (cc)
       by (Some row) at e =
-          let parts = and_parts (not row.dead) (row.place == old.sought) e in
+          let parts = and_parts (not row.dead) (row.place == old.sought_place) e in
           record {
             there = ap is_some at;
-            kind = λ r is. let same : row ≡ r = cc in was.kind r is (sym (ap (λ (z : ObjectRow). z.place) same) ∙ eqb-true row.place old.sought parts.1);
+            kind = λ r is. let same : row ≡ r = cc in
+                was.kind r is (sym (ap (λ (z : ObjectRow). z.place) same) ∙ eqb-true row.place old.sought_place parts.1);
           }
 
   pub return-course : (i : Instr) → Course script S t old i (Some part.Return) (return_of S t old i)
@@ -282,7 +282,7 @@ module _ (script : Script) (S : State) (t : ObjNo) (old : ThreadRow) (here : thr
     unset = λ s is. absurd (cc);
     wanted = λ is. absurd (cc);
     used =
-        λ j o is used. let own : found_object old ≡ o = cc in let same : k ≡ j = cc in
+        λ j o is used. let own : old.sought ≡ o = cc in let same : k ≡ j = cc in
         subst (λ (z : Kind). IsOfKind S.references.objects z o) same
         (subst (IsOfKind S.references.objects k) own (opened-kind k opens ((had refl).found k refl)));
     found = λ j is. absurd (cc);
@@ -293,7 +293,7 @@ module _ (script : Script) (S : State) (t : ObjNo) (old : ThreadRow) (here : thr
     unset = λ s is. absurd (cc);
     wanted = λ is. absurd (cc);
     used =
-        λ k o is used. let own : found_object old ≡ o = cc in
+        λ k o is used. let own : old.sought ≡ o = cc in
         subst (IsOfKind S.references.objects k) own (opened-kind k opens ((had refl).found k is));
     found = λ k is. absurd (cc);
     owned = λ o is used. absurd (cc);

@@ -6,7 +6,6 @@ use Rattle.sym_base.specs.declared.kind.Arg.{Arg}
 use Rattle.sym_base.specs.declared.kind.Kind.{Kind}
 use Rattle.sym_base.specs.declared.kind.Kind.TheVariants as kind
 use Rattle.sym_base.specs.declared.number.ObjNo.{ObjNo}
-use Rattle.script_types.specs.Shape.{IsShaped}
 use Rattle.script_types.specs.declared.declaration.DfcDecl.{DfcDecl}
 use Rattle.script_types.specs.declared.declaration.Op.{Op}
 use Rattle.script_types.specs.declared.declaration.Op.TheVariants as op
@@ -25,7 +24,6 @@ use Rattle.state_rows.specs.declared.messages.Way.TheVariants.{Disconnect}
 use Rattle.state_rows.specs.declared.requests.Request.{Request}
 use Rattle.state_rows.specs.declared.servers.ServerRow.{ServerRow}
 use Rattle.state_rows.specs.declared.thread.Role.{Role}
-use Rattle.state_rows.specs.declared.thread.Role.TheVariants.{Declared, Queue, Supervisor}
 use Rattle.state_rows.specs.declared.thread.Stage.{Stage}
 use Rattle.state_rows.specs.declared.thread.Stage.TheVariants.{Buried, Cleaned}
 use Rattle.state_rows.specs.declared.thread.ThreadRow.{ThreadRow}
@@ -45,7 +43,6 @@ use Rattle.machine.specs.References.{same}
 use Rattle.machine.specs.Rows.{table_of, thread_of}
 use Rattle.machine.specs.Steps.{pay}
 use Rattle.machine.specs.ThreadCalls.{is_live}
-use Rattle.machine.specs.WellFormed.{IsRole}
 use Rattle.machine.specs.declared.handles.NewHandle.{NewHandle}
 use Rattle.machine.specs.declared.moves.Move.{Move}
 use Rattle.machine.specs.declared.moves.Move.TheVariants as move
@@ -79,13 +76,8 @@ named-declared script name dfc is = some-inside script.dfcs dfc (position-Some (
     none = record { name = []; queue = []; priority = 0; body = [] }
 
 -- and that of a burial has a number past all of them
-pub burial-called : (script : Script) (role : Role) → IsShaped script → IsRole script role → IsCalled script (burial_of script role)
-burial-called script role shaped declared few = by role declared few
-  where
-    by : (role : Role) → IsRole script role → nat_lt (burial_of script role) 64 ≡ true → is_some (slice_get script.dfcs (burial_of script role)) ≡ true
-    by Supervisor declared few = absurd (cc)
-    by (Queue queue) declared few = let below = ltb-true ((64 + queue) % 256) 64 few in let queues = shaped.queues in absurd (omega arith)
-    by (Declared k) declared few = let below = ltb-true ((65 + length script.queues + k) % 256) 64 few in let all = shaped.count in absurd (omega arith)
+pub burial-called : (script : Script) (role : Role) → IsCalled script (burial_of script role)
+burial-called script role few = let below = ltb-true (burial_of script role) 64 few in absurd (omega arith)
 
 -- whose handle is next
 pub handle-holder : (local : Bool) (holder : ℕ → Holder) (table : List HandleSlot) (handle : NewHandle)
@@ -317,8 +309,8 @@ module _ (script : Script) (S : State) where
       proper-calm script S (give_held t (held_by S.synchronization.nano t)) _
       (proper-held t (held_by S.synchronization.nano t)) (tt, proper-doom_noted t (noted_of S t))
 
-  pub proper-clean : (t : ObjNo) (row : ThreadRow) → IsShaped script → IsRole script row.role → Proper (clean script S t row).moves
-  proper-clean t row shaped declared = (tt, (burial-called script row.role shaped declared, tt))
+  pub proper-clean : (t : ObjNo) (row : ThreadRow) → Proper (clean script S t row).moves
+  proper-clean t row = (tt, (burial-called script row.role, tt))
 
   proper-found : (u : Option ObjNo) → Proper (bury_found u)
   proper-found None = tt

@@ -7,7 +7,7 @@ use Rattle.state_rows.specs.ObjectRows.{place_of}
 use Rattle.state_rows.specs.declared.thread.ThreadRow.{ThreadRow}
 use Rattle.machine.specs.declared.mode.Mode.{Mode}
 use Rattle.machine.specs.declared.state.State.{State}
-use Rattle.machine.specs.Out.{found_object, is_returning, outs_of, seeks}
+use Rattle.machine.specs.Out.{is_returning, outs_of, seeks}
 use Rattle.machine.specs.References.{same, total}
 use Rattle.machine.specs.Rows.{object_of, with_row}
 use Rattle.move_laws.proofs.Lists.Totals.{total-with}
@@ -67,11 +67,11 @@ outs-moved S T o mode place seek =
 
 -- who seeks an object comes back from a find of its number and its place
 pub seeks_is : (o : ObjNo) (place : ℕ) (row : ThreadRow) → 0 < seeks o place (Some row)
-    → (is_returning row.part ≡ true) × (row.sought ≡ place) × (found_object row ≡ o)
-seeks_is o place row some = by (is_returning row.part) (row.sought == place) refl refl some
+    → (is_returning row.part ≡ true) × (row.sought_place ≡ place) × (row.sought ≡ o)
+seeks_is o place row some = by (is_returning row.part) (row.sought_place == place) refl refl some
   where
-    by : (a b : Bool) → is_returning row.part ≡ a → (row.sought == place) ≡ b → 0 < (if a && b then same (found_object row) o else 0)
-        → (is_returning row.part ≡ true) × (row.sought ≡ place) × (found_object row ≡ o)
-    by true true returning at some = (returning, eqb-true row.sought place at, same_is (found_object row) o some)
+    by : (a b : Bool) → is_returning row.part ≡ a → (row.sought_place == place) ≡ b → 0 < (if a && b then same row.sought o else 0)
+        → (is_returning row.part ≡ true) × (row.sought_place ≡ place) × (row.sought ≡ o)
+    by true true returning at some = (returning, eqb-true row.sought_place place at, same_is row.sought o some)
     by true false returning at some = absurd (omega arith)
     by false b returning at some = absurd (omega arith)

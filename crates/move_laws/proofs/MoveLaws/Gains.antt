@@ -23,7 +23,7 @@ use Rattle.state_rows.specs.ObjectRows.{place_of, with_object}
 use Rattle.state_rows.specs.declared.duty.Owed.{Owed}
 use Rattle.machine.specs.Handles.{taken_slot, with_slot}
 use Rattle.machine.specs.Moves.{moved, told, tables_gain, threads_gain, next_object, new_object, with_opened, with_use}
-use Rattle.machine.specs.Out.{found_object, is_returning, part_of, seeks}
+use Rattle.machine.specs.Out.{is_returning, part_of, seeks}
 use Rattle.machine.specs.References.{same, thread_names, option_names, slot_names, count_of, total}
 use Rattle.machine.specs.Holding.{is_holder, same_pair}
 use Rattle.machine.specs.HeldIn.{held_in, owed_by, use_names, own_slot, rows_hold, servers_hold}
@@ -356,12 +356,12 @@ sound-open script S t u o part fits rows =
     × (total (seeks p place) (with_row threads u f) ≤ total (seeks p place) threads) = λ p place.
     let a = total-with (seeks p place) (option_map f) None threads u.0 refl in
     let b : seeks p place (thread_of S u) ≡ seeks p place (Some back.row) = ap (seeks p place) back.is in
-    let c = if_le (is_returning back.row.part && back.row.sought == place) (same (found_object back.row) p) in
-    let d : same (found_object back.row) p ≡ same o p = ap (λ (x : ObjNo). same x p) back.found in
+    let c = if_le (is_returning back.row.part && back.row.sought_place == place) (same back.row.sought p) in
+    let d : same back.row.sought p ≡ same o p = ap (λ (x : ObjNo). same x p) back.found in
     let now : seeks p place (option_map f (thread_of S u))
     ≡ 0 = ap (λ (x : Option ThreadRow). seeks p place (option_map f x)) back.is
-    ∙ if_not (is_returning (Some part) && back.row.sought == place) (same (found_object (f back.row)) p)
-    (ap (λ (b : Bool). b && back.row.sought == place) later) in
+    ∙ if_not (is_returning (Some part) && back.row.sought_place == place) (same ((f back.row).sought) p)
+    (ap (λ (b : Bool). b && back.row.sought_place == place) later) in
     (omega arith, omega arith) in
     sound-of script S T (told (Open u o part) S) rows
     (record {

@@ -29,19 +29,18 @@ use Rattle.machine.specs.Told.{finds}
 use Rattle.machine.specs.Holding.{is_holder, held_after_all, EachFitsHolders, link_names}
 use Rattle.machine.specs.HeldIn.{held_in, use_names}
 use Rattle.machine.specs.Task.{instructions_of}
-use Rattle.machine.specs.Out.{found_object, is_returning, outs_of, part_of, seeks}
+use Rattle.machine.specs.Out.{is_returning, outs_of, part_of, seeks}
 use Rattle.machine.specs.Fits.{FitsMove, IsBack, MayMiss, WaitsNowhere}
 use Rattle.machine.specs.FitsServers.{IsUncalled}
 use Rattle.machine.specs.Serving.{AreMessages, AreServers, begun, numbers_left}
 use Rattle.machine.specs.WellFormed.{IsAlive, is_before_use, IsThread, AreSynchronized, AreSynchronizationRows, AreServiceRows, AreRows, AreServingRows, AreSpent, IsUntold, is_spent}
-use Rattle.move_laws.proofs.Lives.Bits.{there_inside}
 use Rattle.move_laws.proofs.Lives.Kinds.{IsQuiet, lives-quiet}
 use Rattle.move_laws.proofs.Lives.Outs.{KeepsSeeks, out-le, outs-same, seeks-back, seeks-with_row, seeks_is}
 use Rattle.move_laws.proofs.Lives.Places.{HasPlace, OutsFound, outs-found}
 use Rattle.move_laws.proofs.Holders.ThreadRows.{row_holds, rows-with_row, row-other}
 use Rattle.move_laws.proofs.Lists.Totals.{total-with}
 use Rattle.move_laws.proofs.References.Counts.{count-with_row, kernel-with_row}
-use Rattle.move_laws.proofs.References.Same.{if_not, same_is, same_object}
+use Rattle.move_laws.proofs.References.Same.{if_not, same_is}
 use Rattle.move_laws.proofs.RowLaws.Threads.{KeepsThread, length-with_row, threads-with_row, none-with_row}
 use Rattle.move_laws.proofs.RowLaws.Duties.{IsPaidIn, paid-with_row, duties-threads}
 use Rattle.move_laws.proofs.RowLaws.Locks.{leaves-nowhere, leaves-with_row}
@@ -217,14 +216,11 @@ is_back S u row is back = sym (ap (λ (x : Option ThreadRow). is_returning (part
 pub one_row : (S : State) (u : ObjNo) (old row : ThreadRow) → thread_of S u ≡ Some old → thread_of S u ≡ Some row → old ≡ row
 one_row S u old row a b = cc
 
--- an object that is there has its place; its number has 16 bits
+-- an object that is there has its place
 found_there : (S : State) (o p : ObjNo) (place : ℕ) → is_some (object_of S o) ≡ true → place_of (object_of S o) ≡ place
-    → record { 0 = o.0 % 65536 } ≡ p → o.0 < 65536 → HasPlace S p place
-found_there S o p place there at is small = by (object_of S o) refl
+    → o ≡ p → HasPlace S p place
+found_there S o p place there at own = by (object_of S o) refl
   where
-    own : o ≡ p
-    own = same_object o p (let e : o.0 % 65536 ≡ p.0 = ap (λ (x : ObjNo). x.0) is in omega arith)
-
     by : (x : Option ObjectRow) → object_of S o ≡ x → HasPlace S p place
     by None none = let no : is_some (object_of S o) ≡ false = ap is_some none in absurd (cc)
     by (Some row) some = record {
@@ -242,8 +238,8 @@ sound-find script S t u o fits rows =
     let threads = S.references.threads in
     let same_row = λ (row : ThreadRow) (is : thread_of S u ≡ Some row). one_row S u may.row row may.is is in
     let before : (p : ObjNo) (place : ℕ) → seeks p place (thread_of S u) ≡ 0 = λ p place. ap (seeks p place) may.is
-    ∙ if_not (is_returning may.row.part && may.row.sought == place) (same (found_object may.row) p)
-    (ap (λ (b : Bool). b && may.row.sought == place) may.going) in
+    ∙ if_not (is_returning may.row.part && may.row.sought_place == place) (same may.row.sought p)
+    (ap (λ (b : Bool). b && may.row.sought_place == place) may.going) in
     sound-row-out script S u f (Seek o ∷ [])
     (λ p alive. let place = place_of (object_of S p) in
     out-le S.mode.shared (total (seeks p place) threads) (total (seeks p place) (with_row threads u f))
@@ -253,8 +249,7 @@ sound-find script S t u o fits rows =
       | inl here ↦
           let is = ap (λ (x : Option ThreadRow). seeks p place (option_map f x)) may.is in
           let own = seeks_is p place (f may.row) (omega arith) in
-          inr (found_there S o p place may.object own.1 own.2 (let few = rows.references.sized.objects_few in
-          let inside = there_inside S.references.objects o.0 may.object in omega arith))
+          inr (found_there S o p place may.object own.1 own.2)
       | inr nothing ↦ let a = total-with (seeks p place) (option_map f) None threads u.0 refl in let b = before p place in inl (omega arith)
     ])
     (record { link = λ row. refl; uses = λ row. refl }) (λ row is. refl)

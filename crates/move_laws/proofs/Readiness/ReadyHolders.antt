@@ -19,10 +19,11 @@ use Rattle.state_rows.specs.declared.thread.Waiting.TheVariants as waiting
 use Rattle.machine.specs.declared.state.State.{State}
 use Rattle.machine.specs.Rows.{first_owed, thread_of}
 use Rattle.machine.specs.declared.task.Task.TheVariants.{End}
-use Rattle.machine.specs.Task.{instruction, next_call, by_stage, live_task, pay_or, return_or, served_queue, task_of, is_waiting, is_waiting_row, is_stopped, is_ready, is_able}
+use Rattle.machine.specs.Task.{instruction, next_call, by_stage, live_task, pay_or, return_or, served_queue, task_of, is_waiting, is_waiting_row, is_live_row, is_stopped, is_unspent, is_unspent_row, is_ready, is_able}
 use Rattle.machine.specs.Out.{is_returning}
 use Rattle.machine.specs.WellFormed.{AreRows}
 use Rattle.move_laws.proofs.Readiness.HasTask.{has_task, task_is}
+use Rattle.move_laws.proofs.Readiness.ReadyParts.{parts_ready}
 
 -- a live thread that serves no queue has a task
 live_has_task : (script : Script) (calls : DeferredRows) (first : Option Owed) (row : ThreadRow) → row.stage ≡ Live
@@ -70,14 +71,17 @@ holder_ready script S f u rows is =
     ≡ true = or_left (is_some (held_by S.synchronization.nano u)) (not (critical_count S.synchronization.nano u == 0))
     (holds_some S.synchronization.nano f u is) in
     let waits : is_waiting S u ≡ false = ap (is_waiting_row S.mode.shared) held.is ∙ goes_on S.mode.shared held.row held.waits held.going in
-    let stopped : is_stopped S u ≡ false = and_right (not (suspend_count S.synchronization.nano u == 0))
+    let stopped : is_stopped S u ≡ false = and_right (is_live_row (thread_of S u) && not (suspend_count S.synchronization.nano u == 0))
     (not (is_protected S.synchronization.nano u)) (not_from_true (is_protected S.synchronization.nano u) protected) in
     let task : is_some (task_of script S u) ≡ true = task_is script S u (thread_of S u)
     ∙ ap (has_task script S.synchronization.deferred (first_owed S u)) held.is
     ∙ live_has_task script S.synchronization.deferred (first_owed S u) held.row held.live held.serves in
-    and_from (not (is_waiting S u) && not (is_stopped S u)) (is_some (task_of script S u))
-    (and_from (not (is_waiting S u)) (not (is_stopped S u)) (not_from_false (is_waiting S u) waits)
-    (not_from_false (is_stopped S u) stopped)) task
+    parts_ready script S u (record {
+      unspent = ap is_unspent_row held.is ∙ ap is_unspent held.live;
+      waits = not_from_false (is_waiting S u) waits;
+      stopped = not_from_false (is_stopped S u) stopped;
+      task = task;
+    })
 
 -- a thread that is wanted to give a fast mutex up holds one
 holds_wanted : (r : NanoRows) (want : Option ℕ) (u : ObjNo) → option_and_then (holder_of r) want ≡ Some u → (f : ℕ) × (holder_of r f ≡ Some u)

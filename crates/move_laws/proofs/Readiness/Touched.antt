@@ -41,7 +41,7 @@ use Rattle.machine.specs.DeferredMoves.{deferred_moved, deferred_threads, thread
 use Rattle.machine.specs.Kept.{dies}
 use Rattle.machine.specs.Arrivals.{is_listed, touched}
 use Rattle.machine.specs.declared.task.Task.TheVariants.{End}
-use Rattle.machine.specs.Task.{instruction, is_waiting_row, is_ready, next_call, by_stage, live_task, pay_or, return_or, served_queue}
+use Rattle.machine.specs.Task.{instruction, is_live_row, is_unspent_row, is_waiting_row, is_ready, next_call, by_stage, live_task, pay_or, return_or, served_queue}
 use Rattle.machine.specs.Out.{is_returning}
 use Rattle.machine.specs.WellFormed.{AreThreads}
 use Rattle.move_laws.proofs.Holders.ThreadRows.{row-here, row-other}
@@ -50,8 +50,8 @@ use Rattle.move_laws.proofs.Readiness.HasTask.{has_task, task_is}
 -- whether a thread of this row would be ready, with these rows of deferred function calls and of threads that synchronize, and owing this first
 abbrev ready_row : Bool → Script → DeferredRows → NanoRows → ObjNo → Option Owed → Option ThreadRow → Bool
 ready_row shared script calls r u first row =
-    not (is_waiting_row shared row) && not (not (suspend_count r u == 0) && not (is_protected r u)) && has_task script
-    calls first row
+    is_unspent_row row && not (is_waiting_row shared row)
+    && not (is_live_row row && not (suspend_count r u == 0) && not (is_protected r u)) && has_task script calls first row
 
 -- and whether a thread of a state is
 abbrev ready_of : Script → State → ObjNo → Bool
@@ -59,12 +59,13 @@ ready_of script S u = ready_row S.mode.shared script S.synchronization.deferred 
 
 ready_is : (script : Script) (S : State) (u : ObjNo) → is_ready script S u ≡ ready_of script S u
 ready_is script S u =
-    ap (λ (some : Bool). not (is_waiting_row S.mode.shared (thread_of S u)) && not
-    (not (suspend_count S.synchronization.nano u == 0) && not (is_protected S.synchronization.nano u)) && some)
+    ap (λ (some : Bool). is_unspent_row (thread_of S u) && not (is_waiting_row S.mode.shared (thread_of S u)) && not
+    (is_live_row (thread_of S u) && not (suspend_count S.synchronization.nano u == 0) && not (is_protected S.synchronization.nano u)) && some)
     (task_is script S u (thread_of S u))
 
--- a change of a row that leaves what the thread waits for and where its instruction is
+-- a change of a row that leaves what the thread waits for, how far its death is, and where its instruction is
 record KeepsTask (f : ThreadRow → ThreadRow) : Type 0 where
+  pub stage : (row : ThreadRow) → (f row).stage ≡ row.stage
   pub waiting : (shared : Bool) (row : ThreadRow) → is_waiting_row shared (Some (f row)) ≡ is_waiting_row shared (Some row)
   pub task : (script : Script) (calls : DeferredRows) (first : Option Owed) (row : ThreadRow)
       → has_task script calls first (Some (f row)) ≡ has_task script calls first (Some row)
@@ -73,7 +74,7 @@ same_ready : (shared : Bool) (script : Script) (calls : DeferredRows) (r : NanoR
     (f : ThreadRow → ThreadRow) (x : Option ThreadRow)
     → KeepsTask f → ready_row shared script calls r u first (option_map f x) ≡ ready_row shared script calls r u first x
 same_ready shared script calls r u first f None keeps = refl
-same_ready shared script calls r u first f (Some row) keeps = rw (keeps.waiting shared row, keeps.task script calls first row) refl
+same_ready shared script calls r u first f (Some row) keeps = rw (keeps.waiting shared row, keeps.task script calls first row, keeps.stage row) refl
 
 -- the row of any thread, where that of one changes
 ready-with_row : (shared : Bool) (script : Script) (calls : DeferredRows) (r : NanoRows) (first : Option Owed)
@@ -90,7 +91,7 @@ ready-with_row shared script calls r first threads v f u keeps = elim (cases_eq 
 ]
 
 keeps_use : (uses : Option ObjNo) → KeepsTask (with_use uses)
-keeps_use uses = record { waiting = λ shared row. refl; task = λ script calls first row. refl }
+keeps_use uses = record { stage = λ row. refl; waiting = λ shared row. refl; task = λ script calls first row. refl }
 
 ready-gain : (shared : Bool) (script : Script) (calls : DeferredRows) (r : NanoRows) (first : Option Owed)
     (threads : List (Option ThreadRow)) (h : Holder) (o u : ObjNo)
@@ -112,7 +113,7 @@ ready-closed : (shared : Bool) (script : Script) (calls : DeferredRows) (r : Nan
     ≡ ready_row shared script calls r u first (get_or threads u.0 None)
 ready-closed shared script calls r first threads true o u =
     ready-with_row shared script calls r first threads o unlinked u
-    (record { waiting = λ shared row. refl; task = λ script calls first row. refl })
+    (record { stage = λ row. refl; waiting = λ shared row. refl; task = λ script calls first row. refl })
 ready-closed shared script calls r first threads false o u = refl
 
 -- what another thread owes
@@ -229,8 +230,8 @@ ready-deferred script S t m u threads joins none = by (thread_of S u) refl
         let same : next_call (deferred_moved m S.synchronization.deferred) row.role
         ≡ next_call S.synchronization.deferred row.role =
         next (served_queue row.role) (λ q serves. threads.servers u.0 q row is serves) in
-        ap (λ (call : Option ℕ). not (is_waiting_row S.mode.shared (Some row)) && not
-        (not (suspend_count S.synchronization.nano u == 0) && not (is_protected S.synchronization.nano u)) && is_some
+        ap (λ (call : Option ℕ). is_unspent_row (Some row) && not (is_waiting_row S.mode.shared (Some row)) && not
+        (is_live_row (Some row) && not (suspend_count S.synchronization.nano u == 0) && not (is_protected S.synchronization.nano u)) && is_some
         (return_or (is_returning row.part) (instruction script row)
         (pay_or (first_owed S u) (by_stage row.stage [] (live_task row.role call End))))) same
 
@@ -264,11 +265,11 @@ ready-untouched script S t (GoOn v part) u threads joins none =
 ready-untouched script S t (Keep v number) u threads joins none =
     ready-with_row S.mode.shared script S.synchronization.deferred S.synchronization.nano
     (first_owed S u) S.references.threads v (with_kept number) u
-    (record { waiting = λ shared row. refl; task = λ script calls first row. refl })
+    (record { stage = λ row. refl; waiting = λ shared row. refl; task = λ script calls first row. refl })
 ready-untouched script S t (WriteMessage v y number) u threads joins none =
     ready-with_row S.mode.shared script S.synchronization.deferred S.synchronization.nano
     (first_owed S u) S.references.threads v (with_message y number) u
-    (record { waiting = λ shared row. refl; task = λ script calls first row. refl })
+    (record { stage = λ row. refl; waiting = λ shared row. refl; task = λ script calls first row. refl })
 ready-untouched script S t (PutDown v) u threads joins none =
     ready-by script S (moved t (PutDown v) S) u refl refl refl (owed-other S.references.owed v u _ (apart_of v u none))
     (ap (ready_row S.mode.shared script S.synchronization.deferred S.synchronization.nano u (first_owed S u))
@@ -281,7 +282,7 @@ ready-untouched script S t (Messages m) u threads joins none = refl
 ready-untouched script S t (Write v x value) u threads joins none =
     ready-with_row S.mode.shared script S.synchronization.deferred S.synchronization.nano
     (first_owed S u) S.references.threads v (with_register x value) u
-    (record { waiting = λ shared row. refl; task = λ script calls first row. refl })
+    (record { stage = λ row. refl; waiting = λ shared row. refl; task = λ script calls first row. refl })
 ready-untouched script S t (Advance v) u threads joins none =
     ready-by script S (moved t (Advance v) S) u refl refl refl (owed-other S.references.owed v u _ (apart_of v u none))
     (ap (ready_row S.mode.shared script S.synchronization.deferred S.synchronization.nano u (first_owed S u))

@@ -20,7 +20,7 @@ use Rattle.state_rows.specs.declared.thread.Waiting.TheVariants as waiting
 use Rattle.machine.specs.HeldIn.{own_slot, rows_hold, use_names}
 use Rattle.machine.specs.Holding.{link_names}
 use Rattle.machine.specs.References.{kernel_holds, option_names, same, stage_holds, thread_names, total}
-use Rattle.machine.specs.Out.{found_object, is_returning, part_of, seeks}
+use Rattle.machine.specs.Out.{is_returning, part_of, seeks}
 use Rattle.machine.specs.WellFormed.{AreDuties, AreMemories, AreSynchronized, AreThreads, IsSpent, IsThread}
 use Rattle.move_laws.proofs.Lists.Totals.{inside, total-set}
 use Rattle.move_laws.proofs.References.Same.{if_not}
@@ -119,9 +119,10 @@ pub seeks-swept : (tables : List (List HandleSlot)) (threads : List (Option Thre
     → IsOver tables threads o → total (seeks p place) (set threads o None) ≡ total (seeks p place) threads
 seeks-swept tables threads o p place over =
     let moved = total-set (seeks p place) threads o None None (inside threads o over.row over.is) in
-    let back : (is_returning over.row.part && over.row.sought == place) ≡ false = ap (λ (b : Bool). b && over.row.sought == place) over.spent.going in
+    let back : (is_returning over.row.part && over.row.sought_place == place) ≡ false =
+    ap (λ (b : Bool). b && over.row.sought_place == place) over.spent.going in
     let was : seeks p place (get_or threads o None) ≡ 0 = ap (seeks p place) over.is
-    ∙ if_not (is_returning over.row.part && over.row.sought == place) (same (found_object over.row) p) back in
+    ∙ if_not (is_returning over.row.part && over.row.sought_place == place) (same over.row.sought p) back in
     omega arith
 
 -- a number of each row that is 0 of this and where there is none

@@ -82,7 +82,7 @@ impl Procs {
         self.row(t).part
     }
 
-    /// What the steps of a thread's present instruction found: an object, a handle or a number of bytes.
+    /// What the steps of a thread's present instruction found: a handle or a number of bytes.
     pub fn found(&self, t: ThreadNo) -> u32
         requires { IsTrue (is_thread self.now t) }
         ensures { result ≡ (row_of self.now t).found }

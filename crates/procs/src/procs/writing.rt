@@ -102,7 +102,7 @@ impl Procs {
         }
     }
 
-    /// Sets what the steps of a thread's present instruction found, and changes nothing else.
+    /// Sets the handle or the number of bytes that the steps of a thread's present instruction found, and changes nothing else.
     pub fn set_found(&mut self, t: ThreadNo, to: u32)
         requires { IsTrue (is_thread self.old t) }
         ensures { self.new ≡ with_row self.old t (record (row_of self.old t) { found = to }) }
@@ -112,13 +112,14 @@ impl Procs {
         }
     }
 
-    /// Sets the place of the object that a thread's find found, and changes nothing else.
-    pub fn set_sought(&mut self, t: ThreadNo, to: u64)
+    /// Sets the object that a thread's find found, and its place, and changes nothing else.
+    pub fn set_sought(&mut self, t: ThreadNo, object: ObjNo, place: u64)
         requires { IsTrue (is_thread self.old t) }
-        ensures { self.new ≡ with_row self.old t (record (row_of self.old t) { sought = to }) }
+        ensures { self.new ≡ with_row self.old t (record (row_of self.old t) { sought = object; sought_place = place }) }
     {
         if let Some(row) = &mut self.threads[t.0 as usize] {
-            row.sought = to;
+            row.sought = object;
+            row.sought_place = place;
         }
     }
 

@@ -4,7 +4,6 @@ use Rattle.table_moves.specs.Notes.{Notes, notes_back}
 use Rattle.kernel_tables.specs.Choosing.{MayChoose}
 use Rattle.kernel_tables.specs.Performed.{ActionGoes}
 use Rattle.kcore.proofs.ActionsDone.{was-made}
-use Rattle.machine.specs.Out.{found_object}
 use Rattle.kcore.proofs.Backs.{made-like, miss-goes, none_held, stands-at}
 use Rattle.kcore.proofs.back.miss_back.Goals as goal
 
@@ -13,7 +12,7 @@ drop_note-requires-clause-over g c = λ noted.
     let S = c.args.core.now.state in
     let p = (g.W.RefWords.slip c.args.note).place in
     let h = c.requires.may.out noted in
-    let object = found_object h.back.row in
+    let object = h.back.row.sought in
     none_held S.references.objects p object (stands-at c.args.script.now S c.args.thread p object c.requires.runs.rows h refl)
     (c.requires.shut h.back.row h.back.is)
 
@@ -26,7 +25,7 @@ make-requires-clause-goes g c =
     let p = (g.W.RefWords.slip c.args.note).place in
     let noted = c.drop_note.ensures.was_out in
     let h = c.requires.may.out noted in
-    let goes = miss-goes script old.state t p (found_object h.back.row) mid.decision c.requires.runs.shaped c.requires.runs.rows
+    let goes = miss-goes script old.state t p h.back.row.sought mid.decision c.requires.runs.shaped c.requires.runs.rows
     h refl (c.requires.shut h.back.row h.back.is) (c.drop_note.ensures.decision ∙ c.requires.decided noted) in
     subst (λ (S : State). ActionGoes script t mid.decision.moves S) (sym c.drop_note.ensures.state) goes
 
