@@ -29,10 +29,13 @@ pub preceded_one_more : (byte : ℕ) (piece : List ℕ) (pieces : List (List ℕ
 unfolding preceded
 preceded_one_more byte piece pieces = refl
 
-pub joined_head : (byte : ℕ) (a b c : List ℕ) (xs ys : List (List ℕ))
-    → joined byte (a ∷ b ∷ c ∷ (xs ++ ys)) ≡ ((a ++ byte ∷ b ++ byte ∷ c) ++ preceded byte xs) ++ preceded byte ys
-unfolding joined
-joined_head byte a b c xs ys = simp (preceded_one_more, preceded-append, append_assoc)
+pub preceded_pair : (byte : ℕ) (a b : List ℕ) → preceded byte (a ∷ b ∷ []) ≡ byte ∷ a ++ byte ∷ b
+unfolding preceded
+preceded_pair byte a b = rw append-nil refl
+
+pub preceded_sums : (byte : ℕ) (xs ys zs : List (List ℕ))
+    → preceded byte (xs ++ (ys ++ zs)) ≡ (preceded byte xs ++ preceded byte ys) ++ preceded byte zs
+preceded_sums byte xs ys zs = simp (preceded-append, append_assoc)
 
 pub joined_row : (byte : ℕ) (a b c d : List ℕ) (xs : List (List ℕ))
     → joined byte (a ∷ b ∷ c ∷ d ∷ xs) ≡ (a ++ byte ∷ b ++ byte ∷ c ++ byte ∷ d) ++ preceded byte xs

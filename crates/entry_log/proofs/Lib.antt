@@ -1,6 +1,8 @@
 mod Bytes
 mod Digits
+mod EntryParts
 mod Joins
+mod NextPlace
 mod Pieces
 mod ReadActor
 mod ReadEffect

@@ -14,4 +14,4 @@ pub use entry::{Actor, Entry, FinalRow};
 pub use law::{known_effect, known_effects, known_entries, known_entry, same_texts};
 pub use step::{Part, Step};
 pub use sym_base::Word;
-pub use text::{entry_text, final_text};
+pub use text::{EntryLine, Line, entry_text, final_text, line_of_entry, line_of_row};

@@ -10,10 +10,10 @@ pub mod Finishing
 pub mod Instructions
 pub mod Interrupts
 pub mod KernelThreads
-pub mod Living
+pub mod LiveObjects
 pub mod Locks
 pub mod MemoryCalls
-pub mod Posting
+pub mod SentMessages
 pub mod Reaping
 pub mod Regular
 pub mod Requests
@@ -26,4 +26,4 @@ pub mod Steps
 pub mod Tame
 pub mod Uncalled
 pub mod Waiters
-pub mod Working
+pub mod ServerEnds

@@ -1,17 +1,17 @@
 -- How threads die, read off the moves of actions.
-pub mod Bare
-pub mod Cut
-pub mod Dead
-pub mod Dies
-pub mod Dooms
-pub mod Drops
+pub mod CleanedRows
+pub mod HistoryCuts
+pub mod AfterCleaning
+pub mod DeathsTold
+pub mod AfterDoom
+pub mod OwnCleaning
 pub mod EffectSums
-pub mod Gone
+pub mod CleanedIdle
 pub mod InOrder
-pub mod Leaves
+pub mod LeftAtCleaning
 pub mod LockMoves
 pub mod Moves
-pub mod Order
+pub mod OnceEach
 pub mod Rows
 pub mod Runs
 pub mod Tables

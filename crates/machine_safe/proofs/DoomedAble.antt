@@ -24,7 +24,7 @@ use Rattle.machine.specs.declared.state.State.{State}
 use Rattle.machine.specs.declared.task.Task.{Task}
 use Rattle.machine_safe.specs.DoomedAble.{AreDoomedAble}
 use Rattle.machine_safe.proofs.LeftNothing.{steady-after}
-use Rattle.machine_safe.proofs.Serving.Freed.{AreFreed}
+use Rattle.machine_safe.proofs.Serving.DoomedWaits.{AreFreed}
 use Rattle.move_laws.proofs.Readiness.ReadyParts.{parts_ready}
 
 -- a doomed thread has something to do

@@ -17,7 +17,7 @@ use Rattle.machine_laws.proofs.AtBoot.BootRows.{rows-boot}
 use Rattle.machine_laws.proofs.Reached.AfterHistory.{well_formed-after}
 use Rattle.machine_safe.specs.Laws.{LeavesNothing}
 use Rattle.machine_safe.proofs.Done.{rows-by, rows-choosing}
-use Rattle.machine_safe.proofs.Serving.Steady.{IsSteady, steady-boot, steady-keeping, steady-next}
+use Rattle.machine_safe.proofs.Serving.NothingLacking.{IsSteady, steady-boot, steady-keeping, steady-next}
 
 -- nothing is lacking after any entries
 steady-after_from : (script : Script) (S : State) (es : List Entry) → IsShaped script → AreRows script S

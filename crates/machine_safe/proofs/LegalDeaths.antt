@@ -5,10 +5,10 @@ use Rattle.script_types.specs.Source.{IsWellFormed}
 use Rattle.entry_log.specs.declared.entry.Entry.{Entry}
 use Rattle.machine.specs.History.{IsLegalIn}
 use Rattle.machine_safe.specs.SafeDeaths.{IsSafeDeaths}
-use Rattle.machine_safe.proofs.Deaths.Dead.{stays-dead}
-use Rattle.machine_safe.proofs.Deaths.Dooms.{doom-ends}
+use Rattle.machine_safe.proofs.Deaths.AfterCleaning.{stays-dead}
+use Rattle.machine_safe.proofs.Deaths.AfterDoom.{doom-ends}
 use Rattle.machine_safe.proofs.Deaths.InOrder.{dies-in-order}
-use Rattle.machine_safe.proofs.Deaths.Leaves.{clean-leaves}
+use Rattle.machine_safe.proofs.Deaths.LeftAtCleaning.{clean-leaves}
 
 pub legal_deaths : (shared : Bool) (script : Script) (history : List Entry) → IsWellFormed script
     → IsLegalIn shared script history → IsSafeDeaths shared script history

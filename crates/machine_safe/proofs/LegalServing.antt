@@ -5,12 +5,12 @@ use Rattle.machine.specs.History.{after_in, choosing, is_deathless, keeping, IsL
 use Rattle.machine.specs.References.{mutex_names, total}
 use Rattle.machine_laws.proofs.AtBoot.Born.{born_row, each_born}
 use Rattle.machine_laws.proofs.Reached.Histories.{after_from-push}
-use Rattle.machine_safe.proofs.Deaths.Cut.{cut, dies-history}
-use Rattle.machine_safe.proofs.Deaths.Leaves.{empty-cleaning}
-use Rattle.machine_safe.proofs.Deaths.Order.{cleans-here}
+use Rattle.machine_safe.proofs.Deaths.HistoryCuts.{cut, dies-history}
+use Rattle.machine_safe.proofs.Deaths.LeftAtCleaning.{empty-cleaning}
+use Rattle.machine_safe.proofs.Deaths.OnceEach.{cleans-here}
 use Rattle.machine_safe.proofs.Deaths.Rows.{row_bit, stage_live}
-use Rattle.machine_safe.proofs.Serving.Books.{IsFated, book-boot, turn-entry}
-use Rattle.machine_safe.proofs.Serving.Turns.{Book, IsLawful, nothing-left}
+use Rattle.machine_safe.proofs.Serving.HistoriesTold.{IsFated, book-boot, turn-entry}
+use Rattle.machine_safe.proofs.Serving.ActionsTold.{Book, IsLawful, nothing-left}
 use Rattle.machine_safe.specs.SafeDeaths.{StandsAt, cleanings}
 use Rattle.machine_safe.specs.SafeMessages.{IsSafeMessages, NothingLeft}
 use Rattle.machine_safe.specs.SafeServers.{IsSafeServers}
@@ -24,15 +24,15 @@ use Rattle.sym_base.specs.declared.number.ObjNo.{ObjNo}
 use Rattle.script_types.specs.Source.{IsWellFormed}
 use Rattle.machine.specs.declared.state.State.{State}
 use Rattle.machine_safe.specs.SafeBusy.{IsSafeBusy}
-use Rattle.machine_safe.proofs.Serving.Deeds.{Looked}
-use Rattle.machine_safe.proofs.Serving.Looked.{boot-looked, entry-looked}
+use Rattle.machine_safe.proofs.Serving.ServerActions.{Looked}
+use Rattle.machine_safe.proofs.Serving.LookedSessions.{boot-looked, entry-looked}
 use Rattle.machine_safe.proofs.Serving.Connecting.{KeepHandles, kept-boot, kept-next}
-use Rattle.machine_safe.proofs.Serving.Served.{served-made}
-use Rattle.machine_safe.proofs.Serving.Steady.{IsSteady, sends-over, steady-boot, steady-keeping, steady-next, steady-properly}
+use Rattle.machine_safe.proofs.Serving.ServersAsTold.{served-made}
+use Rattle.machine_safe.proofs.Serving.NothingLacking.{IsSteady, sends-over, steady-boot, steady-keeping, steady-next, steady-properly}
 use Rattle.machine.specs.Moves.{next_object}
 use Rattle.machine_safe.proofs.Serving.KeptRows.{next-unmade}
 use Rattle.state_rows.specs.ServerRows.{server_at}
-use Rattle.machine_safe.proofs.Serving.Reading.{reading}
+use Rattle.machine_safe.proofs.Serving.ServerReading.{reading}
 use Rattle.std.specs.Prelude.{is_some}
 use Rattle.state_rows.specs.declared.servers.ServerRow.{ServerRow}
 

@@ -10,13 +10,13 @@ use Rattle.entry_log.specs.declared.step.Step.TheVariants.{Wait}
 use Rattle.machine.specs.Boot.{boot_in}
 use Rattle.machine.specs.History.{IsLegalIn, after_in, choosing, is_deathless, transition}
 use Rattle.machine_laws.proofs.Fitting.Regular.{acts}
-use Rattle.machine_safe.proofs.Deaths.Cut.{cut}
+use Rattle.machine_safe.proofs.Deaths.HistoryCuts.{cut}
 use Rattle.machine_safe.proofs.Finders.Actions.{AtFinds}
 use Rattle.machine_safe.proofs.Finders.Runs.{stands-rest}
 use Rattle.machine_safe.proofs.LegalReferences.{stands-boot}
 use Rattle.machine_safe.proofs.LegalServing.{book-after, handles-keeping}
-use Rattle.machine_safe.proofs.Serving.Acts.{actor-acts, lacks-nothing}
-use Rattle.machine_safe.proofs.Serving.Steady.{steady-keeping}
+use Rattle.machine_safe.proofs.Serving.Progress.{actor-acts, lacks-nothing}
+use Rattle.machine_safe.proofs.Serving.NothingLacking.{steady-keeping}
 use Rattle.machine_safe.specs.SafeDeaths.{StandsAt}
 use Rattle.machine_safe.specs.SafeWaits.{IsSafeWaits}
 

@@ -22,10 +22,10 @@ use Rattle.machine.specs.Task.{may_act}
 use Rattle.machine.specs.Transition.{act}
 use Rattle.machine.specs.declared.state.State.{State}
 use Rattle.machine_laws.proofs.Reached.Histories.{after_from-push}
-use Rattle.machine_safe.proofs.Deaths.Cut.{IsCut, cut, legal-front, legal-rest}
-use Rattle.machine_safe.proofs.Deaths.Dead.{stays-dead}
+use Rattle.machine_safe.proofs.Deaths.HistoryCuts.{IsCut, cut, legal-front, legal-rest}
+use Rattle.machine_safe.proofs.Deaths.AfterCleaning.{stays-dead}
 use Rattle.machine_safe.proofs.Deaths.InOrder.{exact-run}
-use Rattle.machine_safe.proofs.Deaths.Order.{actor-is}
+use Rattle.machine_safe.proofs.Deaths.OnceEach.{actor-is}
 use Rattle.machine_safe.proofs.Deaths.Runs.{dies-run}
 use Rattle.machine_laws.proofs.AtBoot.BootRows.{rows-boot}
 use Rattle.machine_laws.proofs.Reached.AfterHistory.{well_formed-after}
@@ -34,10 +34,10 @@ use Rattle.machine_safe.proofs.Finders.Actions.{AtFinds}
 use Rattle.machine_safe.proofs.Finders.Runs.{stands-rest}
 use Rattle.machine_safe.proofs.LegalReferences.{stands-boot}
 use Rattle.machine_safe.proofs.LegalServing.{book-after, handles-keeping}
-use Rattle.machine_safe.proofs.Serving.Steady.{steady-keeping, steady-properly}
+use Rattle.machine_safe.proofs.Serving.NothingLacking.{steady-keeping, steady-properly}
 use Rattle.machine_safe.specs.CountAfter.{is_by}
 use Rattle.machine_safe.specs.SafeDeaths.{StandsAt, cleanings}
-use Rattle.machine_safe.proofs.Weight.Acts.{act-lowers}
+use Rattle.machine_safe.proofs.Weight.DoomedActions.{act-lowers}
 use Rattle.machine_safe.proofs.Weight.Entries.{Others, others-next}
 use Rattle.machine_safe.proofs.Weight.Lowers.{Lowered}
 use Rattle.machine_safe.specs.SafeWeights.{IsSafeWeights, acts_of, added_by, added_in, added_to, handles_by, is_doomed, is_doomed_row, is_dying, logons_made, weight_left}

@@ -2,32 +2,41 @@
 use Rattle.std.proofs.Common.{◌≡◌, ◌⊎◌, inl, inr, ℕ, zero, suc, ◌+◌, ◌<◌, ◌≤◌, Bool, true, false, List, [], ◌∷◌, ◌++◌, length, sym, ap, subst, ◌∙◌, refl, arith, length-append, Option, Some, None}
 use Rattle.std.proofs.lemmas.Bool.{eqb-true, ltb-true, leb-true}
 use Rattle.std.proofs.lemmas.List.{length-replicate}
-use Rattle.std.specs.List.{AllByRecursion, slice_get}
-use Rattle.std.specs.Prelude.{◌&&◌, ◌||◌, ◌==◌, nat_lt, nat_le, IsTrue}
+use Rattle.std.specs.List.{AllByRecursion, list_all, slice_get}
+use Rattle.std.specs.Prelude.{◌&&◌, ◌||◌, ◌==◌, not, if◌then◌else◌, nat_lt, nat_le, IsTrue}
 use Rattle.script_types.specs.Context.{start, after, after_all, with_instr, last_of, may_stand, is_thread, rank_of, rank_or}
 use Rattle.script_types.specs.Names.{Declared}
-use Rattle.script_types.specs.Forms.{Form, form_of, instr_form, operands_of, body_of}
-use Rattle.script_types.specs.Operands.{Values, is_value, are_values}
+use Rattle.script_types.specs.Forms.{Form, form_of, instr_form, instr_operands, operands_of, body_of}
+use Rattle.script_types.specs.Operands.{Value, Values, is_value, are_values}
 use Rattle.script_types.specs.Ranges.{is_body, is_form, is_source_line}
-use Rattle.script_types.specs.Shape.{HasRegisters, IsShapedThread}
+use Rattle.script_types.specs.Shape.{HasRegisters, IsShapedThread, register_in, registers_in}
 use Rattle.script_types.specs.Source.{IsWellFormed}
 use Rattle.script_types.specs.Stands.{Stands, AllStand, last_instrs, all_instrs}
 use Rattle.script_types.specs.declared.context.Context.{Context}
 use Rattle.script_types.specs.declared.declaration.ThreadDecl.{ThreadDecl}
 use Rattle.script_types.specs.declared.instruction.Instr.{Instr}
-use Rattle.script_types.specs.declared.instruction.Instr.TheVariants as instr
+use Rattle.script_types.specs.declared.keyword.Keyword.{Keyword}
+use Rattle.script_types.specs.declared.keyword.Keyword.TheVariants as key
 use Rattle.script_types.specs.declared.operand.Operand.{Operand}
+use Rattle.script_types.specs.declared.operand.Operand.TheVariants as operand
 use Rattle.script_types.specs.declared.script.Script.{Script}
 use Rattle.script_types.specs.declared.source_line.LineKind.{LineKind}
 use Rattle.script_types.specs.declared.source_line.LineKind.TheVariants as of
 use Rattle.script_types.specs.declared.source_line.SourceLine.{SourceLine}
 use Rattle.script_types.specs.declared.source_line.SourceLine.TheVariants as line
+use Rattle.sym_base.specs.declared.word.Word.{Word}
+use Rattle.sym_base.specs.declared.word.Word.TheVariants as word
 
 -- what holds of each holds at each place
 pub at_place : {A : Type 0} (P : A → Type 0) (xs : List A) → AllByRecursion P xs → (k : ℕ) (x : A) → slice_get xs k ≡ Some x → P x
 at_place P [] all k x h = absurd (cc)
 at_place P (y ∷ ys) all zero x h = let e : y ≡ x = cc in subst P e all.0
 at_place P (y ∷ ys) all (suc k) x h = at_place P ys all.1 k x h
+
+-- and of two lists' elements
+all_append : {A : Type 0} (P : A → Type 0) (xs ys : List A) → AllByRecursion P xs → AllByRecursion P ys → AllByRecursion P (xs ++ ys)
+all_append P [] ys all more = more
+all_append P (x ∷ xs) ys all more = (all.0, all_append P xs ys all.1 more)
 
 pub both : (a b : Bool) → (a && b) ≡ true → (a ≡ true) × (b ≡ true)
 both true b h = (refl, h)
@@ -54,42 +63,57 @@ in_form f h =
     let parts = both (are_values (operands_of f.keyword f.second) f.values) (is_body (body_of f.keyword f.second) f.body) h in
     (are_in (operands_of f.keyword f.second) f.values parts.0, parts.1)
 
-eight : (x : ℕ) → nat_le x 7 ≡ true → x < 8
-eight x h = let le = leb-true x 7 h in omega arith
+-- an instruction in range
+pub instr_in : (what : Instr) → is_source_line (line.Instr what) ≡ true
+    → AreIn (operands_of (instr_form what).keyword (instr_form what).second) (instr_form what).values
+instr_in what h = (in_form (instr_form what) h).0
 
 pub number_in : (low high n : ℕ) → (nat_le low n && nat_le n high) ≡ true → (low ≤ n) × (n ≤ high)
 number_in low high n h = let parts = both (nat_le low n) (nat_le n high) h in (leb-true low n parts.0, leb-true n high parts.1)
 
--- the registers of an instruction in range
+-- no form has a register behind the eighth
+is_eighth_last : Operand → Bool
+is_eighth_last (operand.Lettered letter last) = not (letter == 114 || letter == 109) || last == 7
+is_eighth_last what = true
+
+instr_eighth : (w : Word) (second : Bool) → list_all is_eighth_last (instr_operands w second) ≡ true
+unfolding is_eighth_last
+instr_eighth word.Create false = refl
+instr_eighth word.Create true = refl
+instr_eighth w second = refl
+
+form_eighth : (k : Keyword) (second : Bool) → list_all is_eighth_last (operands_of k second) ≡ true
+unfolding is_eighth_last
+form_eighth (key.Instr w) second = instr_eighth w second
+form_eighth key.Kthread false = refl
+form_eighth key.Kthread true = refl
+form_eighth key.Thread false = refl
+form_eighth key.Thread true = refl
+form_eighth k second = refl
+
+eighth : (is : Bool) (last x : ℕ) → (not is || last == 7) ≡ true → nat_le x last ≡ true → AllByRecursion (λ y. y < 8) (if is then x ∷ [] else [])
+eighth true last x eight small = let seven = eqb-true last 7 eight in let le = leb-true x last small in (omega arith, tt)
+eighth false last x eight small = tt
+
+-- so each register in range is one of the eight
+register_small : (what : Operand) (value : Value what) → is_eighth_last what ≡ true → is_value what value ≡ true
+    → AllByRecursion (λ x. x < 8) (register_in what value)
+unfolding is_eighth_last
+register_small (operand.Lettered letter last) x eight small = eighth (letter == 114 || letter == 109) last x eight small
+register_small what value eight small = tt
+
+registers_small : (operands : List Operand) (values : Values operands) → list_all is_eighth_last operands ≡ true
+    → AreIn operands values → AllByRecursion (λ x. x < 8) (registers_in operands values)
+registers_small [] values eight are = tt
+registers_small (what ∷ operands) values eight are =
+    let parts = both (is_eighth_last what) (list_all is_eighth_last operands) eight in
+    all_append (λ x. x < 8) (register_in what values.0) (registers_in operands values.1)
+    (register_small what values.0 parts.0 are.0) (registers_small operands values.1 parts.1 are.1)
+
 registers : (what : Instr) → is_source_line (line.Instr what) ≡ true → HasRegisters what
-registers (instr.CreateMutex name x) h = let v = in_form (instr_form (instr.CreateMutex name x)) h in eight x v.0.1.1.0
-registers (instr.CreateSemaphore name n x) h = let v = in_form (instr_form (instr.CreateSemaphore name n x)) h in eight x v.0.1.1.1.0
-registers (instr.Open kind name x) h = let v = in_form (instr_form (instr.Open kind name x)) h in eight x v.0.1.1.0
-registers (instr.Dup x y) h = let v = in_form (instr_form (instr.Dup x y)) h in (eight x v.0.0, eight y v.0.1.0)
-registers (instr.DupLocal x y) h = let v = in_form (instr_form (instr.DupLocal x y)) h in (eight x v.0.0, eight y v.0.1.0)
-registers (instr.Close x) h = let v = in_form (instr_form (instr.Close x)) h in eight x v.0.0
-registers (instr.Lock x) h = let v = in_form (instr_form (instr.Lock x)) h in eight x v.0.0
-registers (instr.Unlock x) h = let v = in_form (instr_form (instr.Unlock x)) h in eight x v.0.0
-registers (instr.Wait x) h = let v = in_form (instr_form (instr.Wait x)) h in eight x v.0.0
-registers (instr.Signal x) h = let v = in_form (instr_form (instr.Signal x)) h in eight x v.0.0
-registers (instr.Suspend x) h = let v = in_form (instr_form (instr.Suspend x)) h in eight x v.0.0
-registers (instr.Resume x) h = let v = in_form (instr_form (instr.Resume x)) h in eight x v.0.0
-registers (instr.Priority x p) h = let v = in_form (instr_form (instr.Priority x p)) h in eight x v.0.0
-registers (instr.Kill x n) h = let v = in_form (instr_form (instr.Kill x n)) h in eight x v.0.0
-registers (instr.Terminate x n) h = let v = in_form (instr_form (instr.Terminate x n)) h in eight x v.0.0
-registers (instr.Panic x category n) h = let v = in_form (instr_form (instr.Panic x category n)) h in eight x v.0.0
-registers (instr.ExitType x) h = let v = in_form (instr_form (instr.ExitType x)) h in eight x v.0.0
-registers (instr.Logon x y) h = let v = in_form (instr_form (instr.Logon x y)) h in eight x v.0.0
-registers (instr.Server name x) h = let v = in_form (instr_form (instr.Server name x)) h in eight x v.0.1.0
-registers (instr.Connect name slots x) h = let v = in_form (instr_form (instr.Connect name slots x)) h in eight x v.0.1.1.0
-registers (instr.Send x n y args) h = let v = in_form (instr_form (instr.Send x n y args)) h in eight x v.0.0
-registers (instr.Call x n args) h = let v = in_form (instr_form (instr.Call x n args)) h in eight x v.0.0
-registers (instr.Receive x y) h = let v = in_form (instr_form (instr.Receive x y)) h in (eight x v.0.0, eight y v.0.1.0)
-registers (instr.Complete x n) h = let v = in_form (instr_form (instr.Complete x n)) h in eight x v.0.0
-registers (instr.Function x) h = let v = in_form (instr_form (instr.Function x)) h in eight x v.0.0
-registers (instr.Read x a offset length at) h = let v = in_form (instr_form (instr.Read x a offset length at)) h in eight x v.0.0
-registers (instr.Write x a offset length from) h = let v = in_form (instr_form (instr.Write x a offset length from)) h in eight x v.0.0
-registers _ h = tt
+registers what h =
+    let f = instr_form what in
+    registers_small (operands_of f.keyword f.second) f.values (form_eighth f.keyword f.second) (instr_in what h)
 
 -- a thread of a script with so many processes
 pub record IsHeld (processes : ℕ) (thread : ThreadDecl) : Type 0 where
@@ -109,8 +133,7 @@ pub record IsSound (c : Context) : Type 0 where
   pub front : rank_or c.rank < 7 → length c.script.threads ≡ 0
 
 all_more : {A : Type 0} (P : A → Type 0) (xs : List A) (x : A) → AllByRecursion P xs → P x → AllByRecursion P (xs ++ x ∷ [])
-all_more P [] x all h = (h, tt)
-all_more P (y ∷ ys) x all h = (all.0, all_more P ys x all.1 h)
+all_more P xs x all h = all_append P xs (x ∷ []) all (h, tt)
 
 -- more processes
 held_wider : (less more : ℕ) (threads : List ThreadDecl) → less ≤ more → AllByRecursion (IsHeld less) threads → AllByRecursion (IsHeld more) threads

@@ -6,9 +6,7 @@ use Rattle.script_types.specs.declared.keyword.Keyword.{Keyword}
 use Rattle.script_types.specs.declared.keyword.Keyword.TheVariants as key
 use Rattle.script_types.specs.declared.source_line.LineKind.{LineKind}
 use Rattle.script_types.specs.declared.source_line.LineKind.TheVariants as of
-use Rattle.sym_base.specs.WordText.{word_text}
-use Rattle.sym_base.specs.declared.word.Word.{Word}
-use Rattle.sym_base.specs.declared.word.Word.TheVariants as word
+use Rattle.sym_base.specs.WordText.{all_words, word_text}
 
 -- each word
 abbrev pub keyword_text : Keyword → List ℕ
@@ -28,20 +26,15 @@ keyword_text key.Tick = codes "tick"
 keyword_text key.End = codes "end"
 keyword_text (key.Instr w) = word_text w
 
+-- those that begin no instruction
+abbrev pub line_keywords : List Keyword
+line_keywords =
+    key.Eka2 ∷ key.Pool ∷ key.Fast ∷ key.Dfcq ∷ key.Dfc ∷ key.Idfc ∷ key.Irq ∷ key.Kthread ∷ key.Process ∷ key.Thread ∷
+    key.Schedule ∷ key.Go ∷ key.Tick ∷ key.End ∷ []
+
 -- all of them: instructions first, of which a script has most
 abbrev pub keywords : List Keyword
-keywords =
-    key.Instr word.Create ∷ key.Instr word.Open ∷ key.Instr word.Dup ∷ key.Instr word.Duplocal ∷ key.Instr word.Close ∷
-    key.Instr word.Lock ∷ key.Instr word.Unlock ∷ key.Instr word.Wait ∷ key.Instr word.Signal ∷ key.Instr word.Suspend ∷
-    key.Instr word.Resume ∷ key.Instr word.Priority ∷ key.Instr word.Kill ∷ key.Instr word.Terminate ∷ key.Instr
-    word.Panic ∷ key.Instr word.Exittype ∷ key.Instr word.Logon ∷ key.Instr word.Exit ∷ key.Instr word.Flock ∷ key.Instr
-    word.Funlock ∷ key.Instr word.Fswait ∷ key.Instr word.Fssignal ∷ key.Instr word.Enter ∷ key.Instr word.Leave ∷
-    key.Instr word.Queue ∷ key.Instr word.Request ∷ key.Instr word.Cancel ∷ key.Instr word.Waitany ∷ key.Instr
-    word.Waitfor ∷ key.Instr word.Status ∷ key.Instr word.Server ∷ key.Instr word.Connect ∷ key.Instr word.Send ∷
-    key.Instr word.Call ∷ key.Instr word.Receive ∷ key.Instr word.Complete ∷ key.Instr word.Function ∷ key.Instr
-    word.Read ∷ key.Instr word.Write ∷ key.Instr word.Fill ∷ key.Instr word.Peek ∷ key.Eka2 ∷ key.Pool ∷ key.Fast ∷
-    key.Dfcq ∷ key.Dfc ∷ key.Idfc ∷ key.Irq ∷ key.Kthread ∷ key.Process ∷ key.Thread ∷ key.Schedule ∷ key.Go ∷ key.Tick
-    ∷ key.End ∷ []
+keywords = map key.Instr all_words ++ line_keywords
 
 -- what a word begins
 unfoldable pub keyword_of : List ℕ → Option Keyword

@@ -1,7 +1,9 @@
 -- What holds of every valid script, whichever forms of line the grammar has: the kernel's tables have
 -- room for it, and what it names by number is there.
-use Rattle.std.specs.List.{list_all}
-use Rattle.std.specs.Prelude.{◌≡◌, ℕ, ◌+◌, ◌<◌, ◌≤◌, Bool, nat_le, IsTrue, ⊤, List, Some, length, slice_get}
+use Rattle.std.specs.List.{AllByRecursion, list_all}
+use Rattle.std.specs.Prelude.{◌≡◌, ◌==◌, ◌||◌, ℕ, ◌+◌, ◌<◌, ◌≤◌, Bool, if◌then◌else◌, nat_le, IsTrue, List, [], ◌∷◌, ◌++◌, Some, length, slice_get}
+use Rattle.script_types.specs.Forms.{instr_form, operands_of}
+use Rattle.script_types.specs.Operands.{Value, Values}
 use Rattle.script_types.specs.Resolves.{DoNamesResolve, AreNumbersInRange}
 use Rattle.script_types.specs.declared.declaration.DfcDecl.{DfcDecl}
 use Rattle.script_types.specs.declared.declaration.IdfcDecl.{IdfcDecl}
@@ -9,39 +11,26 @@ use Rattle.script_types.specs.declared.declaration.IrqBody.{IrqBody}
 use Rattle.script_types.specs.declared.declaration.Op.{Op}
 use Rattle.script_types.specs.declared.declaration.ThreadDecl.{ThreadDecl}
 use Rattle.script_types.specs.declared.instruction.Instr.{Instr}
-use Rattle.script_types.specs.declared.instruction.Instr.TheVariants as instr
+use Rattle.script_types.specs.declared.operand.Operand.{Operand}
+use Rattle.script_types.specs.declared.operand.Operand.TheVariants as operand
 use Rattle.script_types.specs.declared.script.Script.{Script}
 
--- each register that an instruction names is one of the eight, and so is each register of a message
+-- the registers that an operand names: one of handles, `r`, or one of messages, `m`
+abbrev pub register_in : (what : Operand) → Value what → List ℕ
+register_in (operand.Lettered letter last) x = if letter == 114 || letter == 109 then x ∷ [] else []
+register_in _ x = []
+
+abbrev pub registers_in : (operands : List Operand) → Values operands → List ℕ
+registers_in [] values = []
+registers_in (what ∷ operands) values = register_in what values.0 ++ registers_in operands values.1
+
+-- those that an instruction names
+abbrev pub registers_of : Instr → List ℕ
+registers_of what = let f = instr_form what in registers_in (operands_of f.keyword f.second) f.values
+
+-- each of them is one of the eight
 abbrev pub HasRegisters : Instr → Type 0
-HasRegisters (instr.CreateMutex name x) = x < 8
-HasRegisters (instr.CreateSemaphore name count x) = x < 8
-HasRegisters (instr.Open what name x) = x < 8
-HasRegisters (instr.Dup x y) = (x < 8) × (y < 8)
-HasRegisters (instr.DupLocal x y) = (x < 8) × (y < 8)
-HasRegisters (instr.Close x) = x < 8
-HasRegisters (instr.Lock x) = x < 8
-HasRegisters (instr.Unlock x) = x < 8
-HasRegisters (instr.Wait x) = x < 8
-HasRegisters (instr.Signal x) = x < 8
-HasRegisters (instr.Suspend x) = x < 8
-HasRegisters (instr.Resume x) = x < 8
-HasRegisters (instr.Priority x priority) = x < 8
-HasRegisters (instr.Kill x code) = x < 8
-HasRegisters (instr.Terminate x code) = x < 8
-HasRegisters (instr.Panic x category code) = x < 8
-HasRegisters (instr.ExitType x) = x < 8
-HasRegisters (instr.Logon x y) = x < 8
-HasRegisters (instr.Server name x) = x < 8
-HasRegisters (instr.Connect name slots x) = x < 8
-HasRegisters (instr.Send x function y args) = x < 8
-HasRegisters (instr.Call x function args) = x < 8
-HasRegisters (instr.Receive x y) = (x < 8) × (y < 8)
-HasRegisters (instr.Complete x code) = x < 8
-HasRegisters (instr.Function x) = x < 8
-HasRegisters (instr.Read x a offset length at) = x < 8
-HasRegisters (instr.Write x a offset length from) = x < 8
-HasRegisters _ = ⊤
+HasRegisters what = AllByRecursion (λ x. x < 8) (registers_of what)
 
 -- a thread of a script with so many processes
 pub record IsShapedThread (processes : ℕ) (thread : ThreadDecl) : Type 0 where

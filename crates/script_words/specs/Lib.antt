@@ -1,6 +1,5 @@
 pub mod Faults
 pub mod Fields
-pub mod FirstBytes
 pub mod LineAt
 pub mod LineSigns
 pub mod Operands

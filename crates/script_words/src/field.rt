@@ -8,6 +8,7 @@ ghost use Rattle.script_words.specs.Fields.{cut_of, is_number, number_of};
 ghost use Rattle.script_types.specs.ObjectName.{is_lower_case, is_object_byte, is_object_name};
 
 use memchr::memchr;
+use sym_base::are_same;
 
 /// The place of the first such byte.
 fn place_of(bytes: &[u8], at: u8) -> Option<usize>
@@ -37,21 +38,6 @@ pub fn cut_far(bytes: &[u8], at: u8) -> Option<(&[u8], &[u8])>
         Some(place) => Some((&bytes[..place], &bytes[place + 1..])),
         None => None,
     }
-}
-
-/// Whether two words have the same bytes. Most words are short, and differ in their lengths or in the first bytes.
-pub fn are_same(one: &[u8], other: &[u8]) -> bool
-    ensures { result ≡ bytes_eq one.now other.now }
-{
-    if one.len() != other.len() {
-        return false;
-    }
-    for i in 0..one.len() {
-        if one[i] != other[i] {
-            return false;
-        }
-    }
-    true
 }
 
 /// Whether the bytes are this word.

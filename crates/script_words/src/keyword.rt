@@ -1,48 +1,73 @@
 //! The first words of lines.
 ghost use Rattle.std.specs.List.{find};
-ghost use Rattle.std.specs.Prelude.{◌≡◌, ℕ, List, ◌∷◌};
+ghost use Rattle.std.specs.Prelude.{◌≡◌, ℕ, List, [], ◌∷◌};
 ghost use Rattle.std.specs.Str.{bytes_eq};
-ghost use Rattle.script_types.specs.Keywords.{keyword_text, keywords, keyword_of, keyword_kind};
+ghost use Rattle.script_types.specs.Keywords.{keyword_text, line_keywords, keyword_of, keyword_kind};
 
-use crate::first_bytes::{
-    with_c, with_d, with_e, with_f, with_g, with_i, with_k, with_l, with_o, with_p, with_q, with_r,
-    with_s, with_t, with_u, with_w,
-};
 use script_types::{Keyword, LineKind};
+use sym_base::{Word, are_same};
 
-/// What a word begins whose first byte this is.
-fn keyword_with(first: u8, word: &[u8]) -> Option<Keyword>
-    ensures { (rest : List ℕ) → word.now ≡ first ∷ rest → result ≡ find (λ k. bytes_eq word.now (keyword_text k)) keywords }
+/// The first of two that a word is.
+#[inline(always)]
+fn either(word: &[u8], one: Keyword, other: Keyword) -> Option<Keyword>
+    ensures { result ≡ find (λ k. bytes_eq word.now (keyword_text k)) (one ∷ other ∷ []) }
+{
+    if are_same(word, one.text()) {
+        Some(one)
+    } else if are_same(word, other.text()) {
+        Some(other)
+    } else {
+        None
+    }
+}
+
+/// This one, if a word is it.
+#[inline(always)]
+fn only(word: &[u8], one: Keyword) -> Option<Keyword>
+    ensures { result ≡ find (λ k. bytes_eq word.now (keyword_text k)) (one ∷ []) }
+{
+    if are_same(word, one.text()) {
+        Some(one)
+    } else {
+        None
+    }
+}
+
+/// What a word begins whose first byte this is, if it is no instruction's.
+fn line_keyword_with(first: u8, word: &[u8]) -> Option<Keyword>
+    ensures { (rest : List ℕ) → word.now ≡ first ∷ rest → result ≡ find (λ k. bytes_eq word.now (keyword_text k)) line_keywords }
 {
     match first {
-        b'c' => with_c(word),
-        b'd' => with_d(word),
-        b'e' => with_e(word),
-        b'f' => with_f(word),
-        b'g' => with_g(word),
-        b'i' => with_i(word),
-        b'k' => with_k(word),
-        b'l' => with_l(word),
-        b'o' => with_o(word),
-        b'p' => with_p(word),
-        b'q' => with_q(word),
-        b'r' => with_r(word),
-        b's' => with_s(word),
-        b't' => with_t(word),
-        b'u' => with_u(word),
-        b'w' => with_w(word),
+        b'd' => either(word, Keyword::Dfcq, Keyword::Dfc),
+        b'e' => either(word, Keyword::Eka2, Keyword::End),
+        b'f' => only(word, Keyword::Fast),
+        b'g' => only(word, Keyword::Go),
+        b'i' => either(word, Keyword::Idfc, Keyword::Irq),
+        b'k' => only(word, Keyword::Kthread),
+        b'p' => either(word, Keyword::Pool, Keyword::Process),
+        b's' => only(word, Keyword::Schedule),
+        b't' => either(word, Keyword::Thread, Keyword::Tick),
         _ => None,
     }
 }
 
-/// What a word begins. Only the words that begin with its first byte are looked at.
-#[tactic(auto, unfolding(script_types::specs::Keywords::keyword_of))]
-pub fn keyword_of(word: &[u8]) -> Option<Keyword>
-    ensures { result ≡ keyword_of word.now }
+/// What a word begins, if it is no instruction's.
+fn line_keyword(word: &[u8]) -> Option<Keyword>
+    ensures { result ≡ find (λ k. bytes_eq word.now (keyword_text k)) line_keywords }
 {
     match word {
         [] => None,
-        [first, ..] => keyword_with(*first, word),
+        [first, ..] => line_keyword_with(*first, word),
+    }
+}
+
+/// What a word begins. Only the words that begin with its first byte are looked at.
+pub fn keyword_of(word: &[u8]) -> Option<Keyword>
+    ensures { result ≡ keyword_of word.now }
+{
+    match Word::of(word) {
+        Some(instr) => Some(Keyword::Instr(instr)),
+        None => line_keyword(word),
     }
 }
 

@@ -5,7 +5,6 @@ mod argument;
 mod body;
 mod fault;
 mod field;
-mod first_bytes;
 mod instructions;
 mod keyword;
 mod line_at;

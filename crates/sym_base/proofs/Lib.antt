@@ -1,2 +1,3 @@
 mod Words
+pub mod FirstBytes
 pub mod Greatest

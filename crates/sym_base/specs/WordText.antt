@@ -1,7 +1,9 @@
--- How an instruction's first word is printed.
+-- The first words of instructions: how each is printed, and which word a text is.
 use Rattle.sym_base.specs.declared.word.Word.{Word}
 use Rattle.sym_base.specs.declared.word.Word.TheVariants.{Create, Open, Dup, Duplocal, Close, Lock, Unlock, Wait, Signal, Suspend, Resume, Priority, Kill, Terminate, Panic, Exittype, Logon, Exit, Flock, Funlock, Fswait, Fssignal, Enter, Leave, Queue, Request, Cancel, Waitany, Waitfor, Status, Server, Connect, Send, Call, Receive, Complete, Function, Read, Write, Fill, Peek}
-use Rattle.std.specs.Prelude.{ℕ, List, codes}
+use Rattle.std.specs.List.{find, filter}
+use Rattle.std.specs.Prelude.{ℕ, Bool, false, ◌==◌, List, [], ◌∷◌, Option, codes}
+use Rattle.std.specs.Str.{bytes_eq}
 
 -- as it stands in a script
 unfoldable pub word_text : Word → List ℕ
@@ -46,3 +48,23 @@ word_text Read = codes "read"
 word_text Write = codes "write"
 word_text Fill = codes "fill"
 word_text Peek = codes "peek"
+
+-- each of them
+abbrev pub all_words : List Word
+all_words =
+    Create ∷ Open ∷ Dup ∷ Duplocal ∷ Close ∷ Lock ∷ Unlock ∷ Wait ∷ Signal ∷ Suspend ∷ Resume ∷ Priority ∷ Kill ∷
+    Terminate ∷ Panic ∷ Exittype ∷ Logon ∷ Exit ∷ Flock ∷ Funlock ∷ Fswait ∷ Fssignal ∷ Enter ∷ Leave ∷ Queue ∷ Request
+    ∷ Cancel ∷ Waitany ∷ Waitfor ∷ Status ∷ Server ∷ Connect ∷ Send ∷ Call ∷ Receive ∷ Complete ∷ Function ∷ Read ∷
+    Write ∷ Fill ∷ Peek ∷ []
+
+-- the word that a text is
+unfoldable pub word_of : List ℕ → Option Word
+word_of text = find (λ word. bytes_eq text (word_text word)) all_words
+
+-- those that begin with a byte
+abbrev pub begins_with : ℕ → List ℕ → Bool
+begins_with byte [] = false
+begins_with byte (first ∷ rest) = first == byte
+
+abbrev pub words_with : ℕ → List Word
+words_with byte = filter (λ word. begins_with byte (word_text word)) all_words

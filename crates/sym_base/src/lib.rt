@@ -9,6 +9,7 @@ mod limits;
 mod memory;
 mod name;
 mod number;
+mod same;
 mod word;
 
 pub use decimal::{push_number, read_number};
@@ -19,4 +20,5 @@ pub use limits::Limits;
 pub use memory::NoMemory;
 pub use name::{MAX_NAME, Name, read_name};
 pub use number::{MsgNo, ObjNo, ThreadNo};
+pub use same::are_same;
 pub use word::Word;

@@ -1,6 +1,10 @@
 //! The first words of instructions, which scripts and histories share.
-ghost use Rattle.std.specs.Prelude.{◌≡◌, ◌≤◌, length};
-ghost use Rattle.sym_base.specs.WordText.{word_text};
+ghost use Rattle.std.specs.List.{find};
+ghost use Rattle.std.specs.Prelude.{◌≡◌, ◌≤◌, ℕ, List, [], ◌∷◌, length};
+ghost use Rattle.std.specs.Str.{bytes_eq};
+ghost use Rattle.sym_base.specs.WordText.{word_of, word_text, words_with};
+
+use crate::same::are_same;
 
 /// The first word of an instruction, one variant for each.
 #[derive(Clone, Copy)]
@@ -98,5 +102,136 @@ impl Word {
             Word::Fill => b"fill",
             Word::Peek => b"peek",
         }
+    }
+
+    /// The word that a text is. Only the words that begin with its first byte are looked at.
+    #[tactic(auto, unfolding(crate::specs::WordText::word_of))]
+    pub fn of(text: &[u8]) -> Option<Word>
+        ensures { result ≡ word_of text.now }
+    {
+        match text {
+            [] => None,
+            [first, ..] => word_with(*first, text),
+        }
+    }
+}
+
+/// The first of these words that a text is. The words of a letter stand together, so that a text is compared with those
+/// alone, each written out.
+macro_rules! first_of {
+    ($text:ident) => { None };
+    ($text:ident, $word:ident $(, $more:ident)*) => {
+        if are_same($text, Word::$word.text()) {
+            Some(Word::$word)
+        } else {
+            first_of!($text $(, $more)*)
+        }
+    };
+}
+
+/// The word with `c` that a text is.
+#[tactic(auto, unfolding(crate::specs::WordText::word_text))]
+fn with_c(text: &[u8]) -> Option<Word>
+    ensures { result ≡ find (λ word. bytes_eq text.now (word_text word)) (words_with 99) }
+{
+    first_of!(text, Create, Close, Cancel, Connect, Call, Complete)
+}
+
+/// The word with `d` that a text is.
+#[tactic(auto, unfolding(crate::specs::WordText::word_text))]
+fn with_d(text: &[u8]) -> Option<Word>
+    ensures { result ≡ find (λ word. bytes_eq text.now (word_text word)) (words_with 100) }
+{
+    first_of!(text, Dup, Duplocal)
+}
+
+/// The word with `e` that a text is.
+#[tactic(auto, unfolding(crate::specs::WordText::word_text))]
+fn with_e(text: &[u8]) -> Option<Word>
+    ensures { result ≡ find (λ word. bytes_eq text.now (word_text word)) (words_with 101) }
+{
+    first_of!(text, Exittype, Exit, Enter)
+}
+
+/// The word with `f` that a text is.
+#[tactic(auto, unfolding(crate::specs::WordText::word_text))]
+fn with_f(text: &[u8]) -> Option<Word>
+    ensures { result ≡ find (λ word. bytes_eq text.now (word_text word)) (words_with 102) }
+{
+    first_of!(text, Flock, Funlock, Fswait, Fssignal, Function, Fill)
+}
+
+/// The word with `l` that a text is.
+#[tactic(auto, unfolding(crate::specs::WordText::word_text))]
+fn with_l(text: &[u8]) -> Option<Word>
+    ensures { result ≡ find (λ word. bytes_eq text.now (word_text word)) (words_with 108) }
+{
+    first_of!(text, Lock, Logon, Leave)
+}
+
+/// The word with `p` that a text is.
+#[tactic(auto, unfolding(crate::specs::WordText::word_text))]
+fn with_p(text: &[u8]) -> Option<Word>
+    ensures { result ≡ find (λ word. bytes_eq text.now (word_text word)) (words_with 112) }
+{
+    first_of!(text, Priority, Panic, Peek)
+}
+
+/// The word with `r` that a text is.
+#[tactic(auto, unfolding(crate::specs::WordText::word_text))]
+fn with_r(text: &[u8]) -> Option<Word>
+    ensures { result ≡ find (λ word. bytes_eq text.now (word_text word)) (words_with 114) }
+{
+    first_of!(text, Resume, Request, Receive, Read)
+}
+
+/// The word with `s` that a text is.
+#[tactic(auto, unfolding(crate::specs::WordText::word_text))]
+fn with_s(text: &[u8]) -> Option<Word>
+    ensures { result ≡ find (λ word. bytes_eq text.now (word_text word)) (words_with 115) }
+{
+    first_of!(text, Signal, Suspend, Status, Server, Send)
+}
+
+/// The word with `w` that a text is.
+#[tactic(auto, unfolding(crate::specs::WordText::word_text))]
+fn with_w(text: &[u8]) -> Option<Word>
+    ensures { result ≡ find (λ word. bytes_eq text.now (word_text word)) (words_with 119) }
+{
+    first_of!(text, Wait, Waitany, Waitfor, Write)
+}
+
+/// This word, if a text is it.
+#[inline(always)]
+fn only(text: &[u8], word: Word) -> Option<Word>
+    ensures { result ≡ find (λ word. bytes_eq text.now (word_text word)) (word ∷ []) }
+{
+    if are_same(text, word.text()) {
+        Some(word)
+    } else {
+        None
+    }
+}
+
+/// The word that a text is, whose first byte this is.
+fn word_with(first: u8, text: &[u8]) -> Option<Word>
+    ensures { (rest : List ℕ) → text.now ≡ first ∷ rest → result ≡ word_of text.now }
+{
+    match first {
+        b'c' => with_c(text),
+        b'd' => with_d(text),
+        b'e' => with_e(text),
+        b'f' => with_f(text),
+        b'k' => only(text, Word::Kill),
+        b'l' => with_l(text),
+        b'o' => only(text, Word::Open),
+        b'p' => with_p(text),
+        b'q' => only(text, Word::Queue),
+        b'r' => with_r(text),
+        b's' => with_s(text),
+        b't' => only(text, Word::Terminate),
+        b'u' => only(text, Word::Unlock),
+        b'w' => with_w(text),
+        _ => None,
     }
 }

@@ -2,7 +2,7 @@
 ghost use Rattle.std.specs.Prelude.{◌≡◌, ◌+◌, ◌≤◌, ◌∷◌, ◌++◌, length, decimal};
 ghost use Rattle.entry_log.specs.ActorText.{actor_text};
 ghost use Rattle.sym_base.specs.Appends.{Appends};
-ghost use Rattle.entry_log.specs.EntryLine.{answer_words, entry_line};
+ghost use Rattle.entry_log.specs.EntryLine.{answer_words, behind_place, entry_line};
 ghost use Rattle.entry_log.specs.Joined.{preceded};
 ghost use Rattle.entry_log.specs.StepText.{step_text};
 
@@ -12,9 +12,6 @@ use super::numbers::{put_code, put_u16, put_u32};
 use super::steps::put_step;
 use crate::{Actor, Entry};
 use arrayvec::ArrayVec;
-
-/// The most bytes that the line of an entry has. A buffer with so much room is written into at once.
-const LONGEST: usize = 192;
 
 /// Adds an actor's letters and number, at most 3 and 5 bytes.
 fn put_numbered<const N: usize>(line: &mut Line, letters: &[u8; N], number: u16)
@@ -64,18 +61,29 @@ fn put_answer(line: &mut Line, answer: Option<i32>)
     }
 }
 
-/// Adds what stands before the effects: place, actor and step, at most 41 bytes.
-fn put_head(line: &mut Line, entry: &Entry)
-    requires { length line.old.items + 41 ≤ 512 }
+/// Adds actor and step, each after a space, at most 31 bytes.
+fn put_act(line: &mut Line, entry: &Entry)
+    requires { length line.old.items + 31 ≤ 512 }
     ensures text { line.new.items ≡ line.old.items
-        ++ (decimal entry.now.place ++ 32 ∷ actor_text entry.now.actor ++ 32 ∷ step_text entry.now.step) }
-    ensures short { length line.new.items ≤ length line.old.items + 41 }
+        ++ (32 ∷ actor_text entry.now.actor ++ 32 ∷ step_text entry.now.step) }
+    ensures short { length line.new.items ≤ length line.old.items + 31 }
 {
-    put_u32(line, entry.place);
     put_byte(line, b' ');
     put_actor(line, entry.actor);
     put_byte(line, b' ');
     put_step(line, &entry.step);
+}
+
+/// Adds what stands behind the place, at most 182 bytes.
+pub fn put_behind(line: &mut Line, entry: &Entry)
+    requires { length line.old.items + 182 ≤ 512 }
+    ensures text { line.new.items ≡ line.old.items ++ behind_place entry.now }
+    ensures short { length line.new.items ≤ length line.old.items + 182 }
+{
+    put_act(line, entry);
+    put_effects(line, entry.effects.as_slice());
+    put_answer(line, entry.answer);
+    put_byte(line, b'\n');
 }
 
 /// Adds the line of an entry, at most 192 bytes.
@@ -84,14 +92,12 @@ fn put_entry(line: &mut Line, entry: &Entry)
     ensures text { line.new.items ≡ line.old.items ++ entry_line entry.now }
     ensures short { length line.new.items ≤ length line.old.items + 192 }
 {
-    put_head(line, entry);
-    put_effects(line, entry.effects.as_slice());
-    put_answer(line, entry.answer);
-    put_byte(line, b'\n');
+    put_u32(line, entry.place);
+    put_behind(line, entry);
 }
 
 /// The line of an entry.
-fn line_of(entry: &Entry) -> Line
+pub fn line_of_entry(entry: &Entry) -> Line
     ensures text { result.items ≡ entry_line entry.now }
     ensures short { length result.items ≤ 192 }
 {
@@ -106,10 +112,6 @@ pub fn entry_text(entry: &Entry, out: &mut ArrayVec<u8, 512>) -> bool
     ensures line { Appends result out.old.items out.new.items (entry_line entry.now) }
     ensures short { length (entry_line entry.now) ≤ 512 }
 {
-    if out.remaining_capacity() >= LONGEST {
-        put_entry(out, entry);
-        return true;
-    }
-    let line = line_of(entry);
+    let line = line_of_entry(entry);
     out.try_extend_from_slice(line.as_slice()).is_ok()
 }

@@ -11,9 +11,6 @@ use crate::FinalRow;
 use arrayvec::ArrayVec;
 use sym_base::{Exit, ExitKind, Kind, Name};
 
-/// The most bytes that the line of an object has. A buffer with so much room is written into at once.
-const LONGEST: usize = 79;
-
 /// A kind's word.
 #[tactic(auto, unfolding(crate::specs::FinalLine::kind_text))]
 fn kind_bytes(kind: Kind) -> &'static [u8]
@@ -134,7 +131,7 @@ fn put_row(line: &mut Line, row: &FinalRow)
 }
 
 /// The line of an object that is left.
-fn line_of(row: &FinalRow) -> Line
+pub fn line_of_row(row: &FinalRow) -> Line
     ensures text { result.items ≡ final_line row.now }
     ensures short { length result.items ≤ 79 }
 {
@@ -149,10 +146,6 @@ pub fn final_text(row: &FinalRow, out: &mut ArrayVec<u8, 512>) -> bool
     ensures line { Appends result out.old.items out.new.items (final_line row.now) }
     ensures short { length (final_line row.now) ≤ 512 }
 {
-    if out.remaining_capacity() >= LONGEST {
-        put_row(out, row);
-        return true;
-    }
-    let line = line_of(row);
+    let line = line_of_row(row);
     out.try_extend_from_slice(line.as_slice()).is_ok()
 }

@@ -4,7 +4,7 @@ ghost use Rattle.entry_log.specs.Joined.{joined};
 ghost use Rattle.entry_log.specs.PartText.{part_text};
 ghost use Rattle.entry_log.specs.StepText.{step_text};
 
-use super::line::{Line, put, put_byte, put_letters};
+use super::line::{Line, put, put_byte, put_letters, put_short};
 use crate::{Part, Step};
 use sym_base::Name;
 
@@ -33,7 +33,7 @@ fn put_of(line: &mut Line, word: &[u8], part: Part)
     ensures text { line.new.items ≡ line.old.items ++ joined 46 (word.now ∷ part_text part ∷ []) }
     ensures short { length line.new.items ≤ length line.old.items + length word.now + 7 }
 {
-    put(line, word);
+    put_short(line, word);
     put_part(line, part);
 }
 

@@ -17,7 +17,7 @@ use Rattle.machine.specs.Rows.{object_of}
 use Rattle.machine.specs.WellFormed.{IsAlive}
 use Rattle.machine.specs.References.{total, thread_names, count_of, kernel_holds}
 use Rattle.machine_laws.proofs.AtBoot.BootObjects.{length-from}
-use Rattle.machine_laws.proofs.Fitting.Living.{alive_inside}
+use Rattle.machine_laws.proofs.Fitting.LiveObjects.{alive_inside}
 use Rattle.move_laws.proofs.References.Same.{same_object, same_self}
 
 -- how often the threads of a list refer to an object

@@ -47,7 +47,7 @@ use Rattle.move_laws.proofs.Numbers.Registers.{has_registers, has_names, has_ran
 use Rattle.move_laws.proofs.MoveLaws.Sound.{Sound, sound-none}
 use Rattle.move_laws.proofs.MoveLaws.Run.{each-sound, sound-pay}
 use Rattle.machine_laws.proofs.Fitting.Stepping.{FitsDecision, FitsStep, IsStepping}
-use Rattle.machine_laws.proofs.Fitting.Working.{IsGiven, fits-work}
+use Rattle.machine_laws.proofs.Fitting.ServerEnds.{IsGiven, fits-work}
 use Rattle.machine_laws.proofs.Fitting.KernelThreads.{none_is}
 use Rattle.machine_laws.proofs.Fitting.Bodies.{Goes, goes-light, light-body}
 use Rattle.machine_laws.proofs.Fitting.Regular.{acts, IsRegular, Kinds, kind_given, kind_of, looking, plain}

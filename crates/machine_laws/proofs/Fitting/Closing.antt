@@ -41,8 +41,8 @@ use Rattle.move_laws.proofs.Numbers.FewEffects.{tell_few}
 use Rattle.move_laws.proofs.References.Same.{eqb_apart, same_self}
 use Rattle.move_laws.proofs.RowLaws.Declared.{all-both}
 use Rattle.move_laws.proofs.RowLaws.Tables.{slot_inside, table_inside}
-use Rattle.machine_laws.proofs.Fitting.Living.{handle_is_counted, thread_is_counted}
-use Rattle.machine_laws.proofs.Fitting.Posting.{MayPost, accepted_fits, of_wake, open_session, posted, stay-post, woken_fits}
+use Rattle.machine_laws.proofs.Fitting.LiveObjects.{handle_is_counted, thread_is_counted}
+use Rattle.machine_laws.proofs.Fitting.SentMessages.{MayPost, accepted_fits, of_wake, open_session, posted, stay-post, woken_fits}
 use Rattle.machine_laws.proofs.Fitting.Staying.{AllStay, Stays, stays-lose, stays-servers}
 use Rattle.machine_laws.proofs.Fitting.Regular.{IsTame, calling}
 use Rattle.machine_laws.proofs.Fitting.Tame.{tame-at}

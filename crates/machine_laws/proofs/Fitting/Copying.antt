@@ -7,6 +7,7 @@ use Rattle.sym_base.specs.declared.number.MsgNo.{MsgNo}
 use Rattle.sym_base.specs.declared.number.ObjNo.{ObjNo}
 use Rattle.sym_base.specs.declared.word.Word.TheVariants as word
 use Rattle.script_types.specs.declared.script.Script.{Script}
+use Rattle.script_types.proofs.LimitLaws.{instr_in, number_in}
 use Rattle.script_types.specs.declared.instruction.Instr.{Instr}
 use Rattle.script_types.specs.declared.instruction.Instr.TheVariants as instr
 use Rattle.entry_log.specs.declared.step.Part.{Part}
@@ -38,7 +39,6 @@ use Rattle.machine.specs.declared.state.State.{State}
 use Rattle.machine_laws.proofs.Fitting.Finishing.{at_number}
 use Rattle.machine_laws.proofs.Fitting.Servers.{taken_is}
 use Rattle.machine_laws.proofs.Fitting.Stepping.{goes-back, is_there, same_row, FitsDecision, IsStepping, fits-answers, fits-nothing, fits-refuse, unspent, ends_in}
-use Rattle.move_laws.proofs.Numbers.Registers.{read_small, write_small}
 use Rattle.machine_laws.proofs.Fitting.Regular.{looking, plain}
 use Rattle.machine_laws.proofs.Fitting.Tame.{may_tell, tame-moves, regular-moves, tame-going}
 
@@ -130,7 +130,7 @@ fits-read {script = script} {S = S} {t = t} {row = row} y arg offset size at p h
         let first : Job = first_job t message arg offset size at in
         let job : Job = next_job row first (read_size ends first) in
         let same = ap (λ (e : Ends). read_size e job) (same_ends S t row message job h.is names.here refl refl) in
-        let few = read_small y arg offset size at h.ranges in
+        let few = (number_in 0 3 arg (instr_in (instr.Read y arg offset size at) h.ranges).1.0).1 in
         fits-piece (Of word.Read part.Piece) refl (Read job) (read_answer ends job) h early
         (record { taken = names.taken; arg = omega arith; done = omega arith })
 
@@ -150,6 +150,6 @@ fits-write {script = script} {S = S} {t = t} {row = row} y arg offset size from 
         let ends : Ends = message_ends S row message arg in
         let first : Job = first_job t message arg offset size from in
         let job : Job = next_job row first (write_size first) in
-        let few = write_small y arg offset size from h.ranges in
+        let few = (number_in 0 3 arg (instr_in (instr.Write y arg offset size from) h.ranges).1.0).1 in
         fits-piece (Of word.Write part.Piece) refl (Write job) (write_answer ends job) h early
         (record { taken = names.taken; arg = omega arith; done = omega arith })

@@ -2,7 +2,7 @@
 use Rattle.std.proofs.Common.{◌≡◌, inl, inr, ℕ, ℤ, ◌<◌, ◌≤◌, List, length, get_or, set, arith, refl, ap, ◌∙◌, Option, Some, None, false, subst, true, is_some}
 use Rattle.std.specs.Prelude.{pos, [], ◌∷◌}
 use Rattle.std.specs.Ordering.{int_eq}
-use Rattle.std.proofs.lemmas.Bool.{cases_lt}
+use Rattle.std.proofs.lemmas.Bool.{cases_lt, leb-true}
 use Rattle.std.proofs.lemmas.List.{get_or-set_same}
 use Rattle.sym_base.specs.declared.error.Error.{Error}
 use Rattle.sym_base.specs.declared.error.Error.TheVariants as error
@@ -12,6 +12,7 @@ use Rattle.sym_base.specs.declared.number.ObjNo.{ObjNo}
 use Rattle.sym_base.specs.declared.word.Word.{Word}
 use Rattle.sym_base.specs.declared.word.Word.TheVariants as word
 use Rattle.script_types.specs.declared.script.Script.{Script}
+use Rattle.script_types.proofs.LimitLaws.{instr_in}
 use Rattle.script_types.specs.declared.instruction.Instr.{Instr}
 use Rattle.script_types.specs.declared.instruction.Instr.TheVariants as instr
 use Rattle.entry_log.specs.declared.step.Part.{Part}
@@ -43,7 +44,6 @@ use Rattle.machine.specs.ThreadCalls.{refusal_of, refusal_of_role, unless_live}
 use Rattle.machine.specs.WellFormed.{AreLogons, AreRequests, AreRows, IsAwaited, is_before_use, is_spent, times_logged}
 use Rattle.move_laws.proofs.Lists.Cases.{if_cases}
 use Rattle.move_laws.proofs.Lists.Totals.{inside}
-use Rattle.move_laws.proofs.Numbers.Registers.{logon_small}
 use Rattle.machine_laws.proofs.Fitting.Dooms.{GoOnAfter, after-doom, fits-after, may_die, unprotected_unheld}
 use Rattle.machine_laws.proofs.Fitting.KernelThreads.{fits-answer, fits-look_kind}
 use Rattle.machine_laws.proofs.Fitting.Uncalled.{not_sent}
@@ -215,7 +215,7 @@ fits-logon {script = script} {S = S} {t = t} {row = row} x s (Some p) h going at
     there : (u : ObjNo) (r : Option ThreadRow) → thread_of S u ≡ r → is_pending S.synchronization.requests t s ≡ false
         → FitsDecision looking script t S (logon_row t u s r)
     there u None is done = fits-nothing script S t
-    there u (Some r) is done = let few = logon_small x s h.ranges in fits-logon_do s u r h going (omega arith) done is
+    there u (Some r) is done = let few = leb-true s 15 (instr_in (instr.Logon x s) h.ranges).1.0 in fits-logon_do s u r h going (omega arith) done is
 
     on : (uses : Option ObjNo) → FitsDecision looking script t S (logon_do S t s uses)
     on None = fits-nothing script S t

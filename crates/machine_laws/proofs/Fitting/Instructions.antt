@@ -40,9 +40,9 @@ pub fits-step : (script : Script) (S : State) (t : ObjNo) (row : ThreadRow) (ins
     → FitsStep (kind_of instr p) script t S (step_of script S t row instr p)
 fits-step script S t row (instr.CreateMutex name x) p h going at = few (fits-create_mutex name x h)
 fits-step script S t row (instr.CreateSemaphore name count x) p h going at = few (fits-create_semaphore name count x h)
-fits-step script S t row (instr.Open kind name x) p h going at = few (fits-open kind name x p h h.registers at)
-fits-step script S t row (instr.Dup x y) p h going at = few (fits-dup x y p h h.registers.1 at)
-fits-step script S t row (instr.DupLocal x y) p h going at = few (fits-duplocal x y p h h.registers.1 at)
+fits-step script S t row (instr.Open kind name x) p h going at = few (fits-open kind name x p h h.registers.0 at)
+fits-step script S t row (instr.Dup x y) p h going at = few (fits-dup x y p h h.registers.1.0 at)
+fits-step script S t row (instr.DupLocal x y) p h going at = few (fits-duplocal x y p h h.registers.1.0 at)
 fits-step script S t row (instr.Close x) p h going at = fits-close x h going
 fits-step script S t row (instr.Lock x) p h going at = few (fits-lock x p h going at)
 fits-step script S t row (instr.Unlock x) p h going at = few (fits-unlock x p h going at)

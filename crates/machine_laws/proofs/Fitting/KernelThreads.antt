@@ -11,6 +11,7 @@ use Rattle.sym_base.specs.declared.word.Word.TheVariants as word
 use Rattle.sym_base.specs.declared.error.Error.{Error}
 use Rattle.sym_base.specs.declared.error.Error.TheVariants as error
 use Rattle.script_types.specs.declared.script.Script.{Script}
+use Rattle.script_types.proofs.LimitLaws.{instr_in, number_in}
 use Rattle.script_types.specs.declared.instruction.Instr.{Instr}
 use Rattle.script_types.specs.declared.instruction.Instr.TheVariants as instr
 use Rattle.entry_log.specs.declared.step.Part.{Part}
@@ -45,10 +46,9 @@ use Rattle.machine.specs.WellFormed.{AreRows, is_before_use}
 use Rattle.machine.specs.Out.{is_returning}
 use Rattle.move_laws.proofs.Numbers.FewEffects.{nano-tells}
 use Rattle.move_laws.proofs.Lists.Cases.{if_cases}
-use Rattle.move_laws.proofs.Numbers.Registers.{priority_small}
 use Rattle.move_laws.proofs.Holders.ThreadRows.{row-here}
 use Rattle.move_laws.proofs.RowLaws.Tables.{object_of_is}
-use Rattle.machine_laws.proofs.Fitting.Living.{handle_is_counted}
+use Rattle.machine_laws.proofs.Fitting.LiveObjects.{handle_is_counted}
 use Rattle.machine_laws.proofs.Fitting.Shared.{IsCheap}
 use Rattle.machine_laws.proofs.Fitting.Stepping.{at_instruction, is_there, FitsDecision, IsStepping, fits-nothing, fits-refuse, fits-use, at-with_row, serves_none, live-changed, stepping_live, MayEndStep, ends_here, last_step, ends_in}
 use Rattle.machine_laws.proofs.Fitting.Uncalled.{is_uncalled, stepping_uncalled}
@@ -311,7 +311,7 @@ fits-priority {script = script} {S = S} {t = t} {row = row} x priority (Some p) 
     fits-call word.Priority refl error.General (λ u. Some (move.SetPriority u priority)) row.uses h (λ u r m is e.
     let same : move.SetPriority u priority ≡ m = cc in
     subst (FitsCall script S t) same (record {
-      fits = priority_small x priority h.ranges;
+      fits = (number_in 0 63 priority (instr_in (instr.Priority x priority) h.ranges).1.0).1;
       at =
           at-with_row script S (moved t (move.SetPriority u priority) S) t u (with_priority priority)
           (record { role = λ r. refl; next = λ r. refl; going = λ r e. e }) refl (ends_here h);

@@ -50,7 +50,7 @@ use Rattle.machine_laws.proofs.Fitting.Closing.{IsHandle, closes, handle_of_proc
 use Rattle.machine_laws.proofs.Fitting.Stepping.{FitsDecision, FitsStep, by_kinds}
 use Rattle.machine_laws.proofs.Fitting.Uncalled.{logged_unsent, waiter_uncalled}
 use Rattle.machine_laws.proofs.Fitting.Waiters.{struck_nowhere, waits_nowhere}
-use Rattle.machine_laws.proofs.Fitting.Working.{IsGiven, OfFirst, empty_left, empty_right, first-all, first-both, fits-work, no-items, none-owned}
+use Rattle.machine_laws.proofs.Fitting.ServerEnds.{IsGiven, OfFirst, empty_left, empty_right, first-all, first-both, fits-work, no-items, none-owned}
 use Rattle.machine_laws.proofs.Fitting.Regular.{freeing, kind_given, plain, calling, going}
 use Rattle.machine_laws.proofs.Fitting.Tame.{regular-moves, tame, tame-at, tame-both, tame-moves, tame-going}
 

@@ -1,12 +1,13 @@
 -- The steps of `queue`, and of requests.
 use Rattle.std.proofs.Common.{◌≡◌, ℕ, ℤ, List, arith, refl, ap, ◌∙◌, Option, Some, None, Bool, true, false}
 use Rattle.std.specs.Prelude.{pos, ◌==◌, ◌||◌, [], ◌∷◌, is_some, if◌then◌else◌}
-use Rattle.std.proofs.lemmas.Bool.{eqb-true}
+use Rattle.std.proofs.lemmas.Bool.{eqb-true, leb-true}
 use Rattle.sym_base.specs.ErrorCode.{error_code}
 use Rattle.sym_base.specs.declared.error.Error.TheVariants as error
 use Rattle.sym_base.specs.declared.number.ObjNo.{ObjNo}
 use Rattle.sym_base.specs.declared.word.Word.TheVariants as word
 use Rattle.script_types.specs.declared.script.Script.{Script}
+use Rattle.script_types.proofs.LimitLaws.{instr_in}
 use Rattle.script_types.specs.declared.instruction.Instr.{Instr}
 use Rattle.script_types.specs.declared.instruction.Instr.TheVariants as instr
 use Rattle.entry_log.specs.declared.step.Part.{Part}
@@ -33,7 +34,6 @@ use Rattle.machine.specs.RequestCalls.{cancel_do, cancel_status, request_do, sta
 use Rattle.move_laws.proofs.Numbers.FewEffects.{request-tells}
 use Rattle.move_laws.proofs.Lists.Cases.{if_cases, or_false_left, or_false_right}
 use Rattle.move_laws.proofs.Lists.Totals.{inside}
-use Rattle.move_laws.proofs.Numbers.Registers.{request_small}
 use Rattle.move_laws.proofs.References.Same.{same_object}
 use Rattle.move_laws.proofs.RowLaws.Declared.{dfc_inside}
 use Rattle.machine_laws.proofs.Fitting.KernelThreads.{none_of, fits-answer, fits-move, fits-later, fits-unless}
@@ -75,7 +75,9 @@ pub fits-request : {script : Script} {S : State} {t : ObjNo} {row : ThreadRow} (
     → IsStepping script S t row (instr.Request d s) → is_returning row.part ≡ false
     → FitsDecision looking script t S (request_do S t d s)
 fits-request {script = script} {S = S} {t = t} d s h going =
-    let small = request_small d s h.ranges in
+    let small = instr_in (instr.Request d s) h.ranges in
+    let few = leb-true d 15 small.0 in
+    let few_statuses = leb-true s 15 small.1.0 in
     let devices = h.rows.synchronization.requests.devices in
     if_cases (FitsDecision looking script t S) (is_pending S.synchronization.requests t s || is_some (request_at S.synchronization.requests d)) _ _
     (λ _. fits-refuse (step.Of word.Request part.Do) refl error.InUse h)

@@ -42,7 +42,7 @@ use Rattle.move_laws.proofs.Lists.Totals.{inside}
 use Rattle.machine.specs.References.{count_of}
 use Rattle.machine_laws.proofs.Fitting.Finishing.{finishes}
 use Rattle.machine_laws.proofs.Fitting.KernelThreads.{fits-answer, fits-later, fits-look_kind, fits-unless}
-use Rattle.machine_laws.proofs.Fitting.Living.{alive_inside, use_is_alive}
+use Rattle.machine_laws.proofs.Fitting.LiveObjects.{alive_inside, use_is_alive}
 use Rattle.machine_laws.proofs.Fitting.Shared.{of_thread_handle}
 use Rattle.machine_laws.proofs.Fitting.Staying.{stay-finish, stay-perform}
 use Rattle.machine_laws.proofs.Fitting.Stepping.{FitsDecision, IsStepping, at-with_row, fits-answers, fits-handle, fits-nothing, fits-refuse, live-changed, live_thread, stepping_live, ends_here}
@@ -84,7 +84,7 @@ fits-server {script = script} {S = S} {t = t} {row = row} name x h going =
         omega arith in
         fits-handle (Of word.Server part.Do) refl
         (move.Servers (Start o t) ∷ move.Make kind.Server name (Own t) ∷ move.Gain (InThread t i) o ∷ []) x number
-        (tame-at calling _ refl refl) h h.registers (
+        (tame-at calling _ refl refl) h h.registers.0 (
           record { next = refl; room = room; owner = live_thread h },
           (
             (
@@ -149,8 +149,8 @@ pub fits-receive : {script : Script} {S : State} {t : ObjNo} {row : ThreadRow} (
 fits-receive x y None h going at =
     fits-unless (Of word.Receive part.Look) refl _ h
     (λ _. fits-look_kind kind.Server word.Receive x refl refl h (ap is_before_use at))
-fits-receive {row = row} x y (Some part.Do) h going at = fits-receive_do y row.uses h going h.registers.1 refl
-fits-receive {row = row} x y (Some _) h going at = fits-receive_done y row.uses h going h.registers.1 refl
+fits-receive {row = row} x y (Some part.Do) h going at = fits-receive_do y row.uses h going h.registers.1.0 refl
+fits-receive {row = row} x y (Some _) h going at = fits-receive_done y row.uses h going h.registers.1.0 refl
 
 -- a message that a server of a thread took is outstanding
 pub taken_is : (S : State) (t : ObjNo) (found : Option Message) (message : Message) → taken_by S t found ≡ Some message → found ≡ Some message

@@ -2,6 +2,7 @@
 use Rattle.std.proofs.Common.{◌≡◌, ℕ, ℤ, ◌<◌, List, [], ◌∷◌, length, get_or, arith, refl, sym, ap, subst, ◌∙◌, Option, Some, None, true, false, ◌+◌, ◌≤◌, Bool}
 use Rattle.std.specs.Ordering.{int_eq}
 use Rattle.std.specs.Prelude.{pos, is_some, option_map, if◌then◌else◌}
+use Rattle.std.proofs.lemmas.Bool.{leb-true}
 use Rattle.sym_base.specs.ErrorCode.{error_code}
 use Rattle.sym_base.specs.declared.error.Error.TheVariants as error
 use Rattle.sym_base.specs.declared.kind.Arg.{Arg}
@@ -14,6 +15,7 @@ use Rattle.script_types.specs.declared.instruction.Args.{Args}
 use Rattle.script_types.specs.declared.instruction.Instr.{Instr}
 use Rattle.script_types.specs.declared.instruction.Instr.TheVariants as instr
 use Rattle.script_types.specs.declared.script.Script.{Script}
+use Rattle.script_types.proofs.LimitLaws.{instr_in}
 use Rattle.entry_log.specs.declared.effect.Holder.TheVariants.{InThread}
 use Rattle.entry_log.specs.declared.step.Part.{Part}
 use Rattle.entry_log.specs.declared.step.Part.TheVariants as part
@@ -50,12 +52,11 @@ use Rattle.move_laws.proofs.Lists.Mapped.{mapped-some}
 use Rattle.move_laws.proofs.Lists.Totals.{total-with}
 use Rattle.move_laws.proofs.Lives.Fresh.{next_fresh}
 use Rattle.move_laws.proofs.Lives.NewObjects.{made-own, next_number_is}
-use Rattle.move_laws.proofs.Numbers.Registers.{send_small}
 use Rattle.move_laws.proofs.RowLaws.MessagesKept.{fewer-with_row}
 use Rattle.machine_laws.proofs.Fitting.Deaths.{not_logged, set_awaited}
 use Rattle.machine_laws.proofs.Fitting.KernelThreads.{fits-answer, fits-look_kind, fits-unless}
-use Rattle.machine_laws.proofs.Fitting.Living.{handle_is_counted, use_is_alive, thread_is_counted, use_is_counted}
-use Rattle.machine_laws.proofs.Fitting.Posting.{MayPost, open_session, posts, stay-post}
+use Rattle.machine_laws.proofs.Fitting.LiveObjects.{handle_is_counted, use_is_alive, thread_is_counted, use_is_counted}
+use Rattle.machine_laws.proofs.Fitting.SentMessages.{MayPost, open_session, posts, stay-post}
 use Rattle.machine_laws.proofs.Fitting.Servers.{owes_more}
 use Rattle.machine_laws.proofs.Fitting.Shared.{fits-seek, of_thread_handle}
 use Rattle.machine_laws.proofs.Fitting.Staying.{stay-perform, stays-lose, stays-requests, stays-go_on}
@@ -315,7 +316,7 @@ fits-connect name slots x None h going at =
     (λ none. fits-seek word.Connect kind.Server name refl h refl (ap is_before_use at) none)
 fits-connect {row = row} name slots x (Some part.Make) h going at = fits-connect_make slots row.uses h at refl
 fits-connect {S = S} {t = t} {row = row} name slots x (Some part.Send) h going at = fits-connect_send (session_made S t row) h going at refl
-fits-connect {S = S} {t = t} {row = row} name slots x (Some _) h going at = fits-connect_done x (session_made S t row) h going h.registers refl
+fits-connect {S = S} {t = t} {row = row} name slots x (Some _) h going at = fits-connect_done x (session_made S t row) h going h.registers.0 refl
 
 -- `send`
 fits-send_to : {script : Script} {S : State} {t : ObjNo} {row : ThreadRow} {instr : Instr} (s : ObjNo) (function : ℤ)
@@ -383,7 +384,7 @@ fits-send {script = script} {S = S} {t = t} {row = row} x n y args (Some p) h go
     over (Some s) e =
         if_cases (FitsDecision calling script t S) (is_pending S.synchronization.requests t y) _ _ (λ _. fits-nothing script S t)
         (λ done. fits-send_to s (pos n) y (args_of args) (open_server S s) h going (ap begun at)
-        (let few = send_small x n y args h.ranges in omega arith) done refl e refl)
+        (let few = leb-true y 15 (instr_in (instr.Send x n y args) h.ranges).1.1.0 in omega arith) done refl e refl)
 
 -- `call`
 fits-call_to : {script : Script} {S : State} {t : ObjNo} {row : ThreadRow} {instr : Instr} (s : ObjNo) (function : ℤ)

@@ -36,7 +36,7 @@ use Rattle.move_laws.proofs.Lists.Cases.{if_cases}
 use Rattle.move_laws.proofs.RowLaws.Tables.{free_index_inside, object_of_is}
 use Rattle.machine_laws.proofs.Fitting.Regular.{IsTame, Kinds, finds_by_name, plain}
 use Rattle.machine_laws.proofs.Fitting.Tame.{may_tell, regular-find, regular-miss, regular-open, tame-going}
-use Rattle.machine_laws.proofs.Fitting.Living.{handle_is_counted, open_is_alive, found_counted, found_there}
+use Rattle.machine_laws.proofs.Fitting.LiveObjects.{handle_is_counted, open_is_alive, found_counted, found_there}
 use Rattle.machine_laws.proofs.Fitting.Stepping.{FitsDecision, IsStepping, before_begins, fits-refuse, fits-use, fits-handle, unspent}
 use Rattle.state_rows.specs.declared.thread.Stage.{Stage}
 use Rattle.state_rows.specs.declared.thread.Stage.TheVariants.{Live, Doomed}

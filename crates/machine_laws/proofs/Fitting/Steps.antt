@@ -10,6 +10,7 @@ use Rattle.sym_base.specs.declared.number.ObjNo.{ObjNo}
 use Rattle.sym_base.specs.declared.word.Word.{Word}
 use Rattle.sym_base.specs.declared.word.Word.TheVariants as word
 use Rattle.script_types.specs.declared.script.Script.{Script}
+use Rattle.script_types.proofs.LimitLaws.{instr_in, number_in}
 use Rattle.script_types.specs.declared.instruction.Instr.{Instr}
 use Rattle.script_types.specs.declared.instruction.Instr.TheVariants as instr
 use Rattle.state_rows.specs.ObjectRows.{is_taken}
@@ -42,10 +43,9 @@ use Rattle.machine.specs.Fits.{EachFits, HasName, IsFree, most_told, most_owed}
 use Rattle.machine.specs.WellFormed.{IsAlive, is_before_use}
 use Rattle.move_laws.proofs.Numbers.FewEffects.{lock-tells, lock-owes}
 use Rattle.move_laws.proofs.Lists.Cases.{if_cases}
-use Rattle.move_laws.proofs.Numbers.Registers.{count_few}
 use Rattle.move_laws.proofs.RowLaws.Tables.{object_of_is}
 use Rattle.machine_laws.proofs.Fitting.Closing.{IsHandle, MayClose, closes, handle_of_process, handle_of_thread, stay-close}
-use Rattle.machine_laws.proofs.Fitting.Living.{use_is_counted}
+use Rattle.machine_laws.proofs.Fitting.LiveObjects.{use_is_counted}
 use Rattle.machine_laws.proofs.Fitting.KernelThreads.{fits-unless}
 use Rattle.machine_laws.proofs.Fitting.Stepping.{FitsDecision, FitsStep, IsStepping, answers_step, by_kinds, fits-handle, fits-nothing, fits-refuse, ends_here}
 use Rattle.machine_laws.proofs.Fitting.Staying.{stay-perform}
@@ -109,20 +109,20 @@ pub fits-create_mutex : {script : Script} {S : State} {t : ObjNo} {row : ThreadR
     → IsStepping script S t row (instr.CreateMutex name x)
     → FitsDecision looking script t S (create_mutex_do S t row name x)
 fits-create_mutex name x h =
-    fits-create Mutex name None x (λ e. absurd (cc)) h h.registers
+    fits-create Mutex name None x (λ e. absurd (cc)) h h.registers.0
     (λ i. record { each = tt; threads = refl; calm = tame-moves [] refl refl })
 
 pub fits-create_semaphore : {script : Script} {S : State} {t : ObjNo} {row : ThreadRow} (name : List ℕ) (count x : ℕ)
     → IsStepping script S t row (instr.CreateSemaphore name count x)
     → FitsDecision looking script t S (create_semaphore_do S t row name count x)
 fits-create_semaphore {script = script} {S = S} name count x h =
-    fits-create Semaphore name (Some (Start (next_object S) count)) x (λ e. absurd (cc)) h h.registers (λ i. record {
+    fits-create Semaphore name (Some (Start (next_object S) count)) x (λ e. absurd (cc)) h h.registers.0 (λ i. record {
       each = (
         record {
           object =
               subst IsAlive (sym (made-own S.references.objects (next_object S).0 (new_object Semaphore name S.references.made)
               (next_number_is S.mode.reuse S.references.objects).0)) refl;
-          few = count_few name count x h.ranges;
+          few = (number_in 0 2147483647 count (instr_in (instr.CreateSemaphore name count x) h.ranges).1.1.0).1;
           free = (next_fresh script S h.rows).owner;
           alone = (next_fresh script S h.rows).waiters;
         },

@@ -25,9 +25,9 @@ use Rattle.machine_laws.proofs.AtBoot.BootRows.{rows-boot}
 use Rattle.machine_safe.proofs.Done.{IsDone, done-next, rows-by, rows-choosing}
 use Rattle.machine_safe.specs.CountAfter.{is_by}
 use Rattle.machine_safe.specs.SafeDeaths.{DiesInOrder, burials, cleanings}
-use Rattle.machine_safe.proofs.Deaths.Cut.{IsCut, cut, live-boot}
-use Rattle.machine_safe.proofs.Deaths.Drops.{drop-next}
-use Rattle.machine_safe.proofs.Deaths.Order.{buried-once, cleaned-left, cleans, doom-first, doomed-once, left-after, left-doomed, left-entry, step-of}
+use Rattle.machine_safe.proofs.Deaths.HistoryCuts.{IsCut, cut, live-boot}
+use Rattle.machine_safe.proofs.Deaths.OwnCleaning.{drop-next}
+use Rattle.machine_safe.proofs.Deaths.OnceEach.{buried-once, cleaned-left, cleans, doom-first, doomed-once, left-after, left-doomed, left-entry, step-of}
 use Rattle.machine_safe.proofs.Deaths.Rows.{held-one, left-held, live-left, row_bit}
 use Rattle.machine.specs.EntryWords.{is_clean}
 use Rattle.machine_laws.proofs.Fitting.Regular.{IsCleaning}

@@ -41,7 +41,7 @@ use Rattle.move_laws.proofs.References.Mutexes.{held-holding, held-not_holding}
 use Rattle.move_laws.proofs.References.Same.{eqb_apart, if_is, if_not, same_is, same_object}
 use Rattle.move_laws.proofs.RowLaws.Locks.{thread_inside}
 use Rattle.machine_safe.specs.SafeDeaths.{burials, dooms, gives, is_lock, signals, takes}
-use Rattle.machine_safe.proofs.Deaths.Dies.{Dies, GainsNone, IsBarred, IsCalm, dies-calm, lock_bit}
+use Rattle.machine_safe.proofs.Deaths.DeathsTold.{Dies, GainsNone, IsBarred, IsCalm, dies-calm, lock_bit}
 use Rattle.machine_safe.proofs.Deaths.Rows.{keeps-same, live-left, row_bit, stage_live}
 use Rattle.machine_safe.proofs.Held.{is_holder_is}
 

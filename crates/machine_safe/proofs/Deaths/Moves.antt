@@ -45,7 +45,7 @@ use Rattle.state_rows.specs.MessageChanges.{next_number}
 use Rattle.state_rows.specs.declared.requests.RequestRows.{RequestRows}
 use Rattle.move_laws.proofs.MoveLaws.Pays.{sweep-unheld}
 use Rattle.move_laws.proofs.References.Same.{if_zero}
-use Rattle.machine_safe.proofs.Deaths.Dies.{Dies, GainsNone, IsBarred, IsCalm, dies-calm}
+use Rattle.machine_safe.proofs.Deaths.DeathsTold.{Dies, GainsNone, IsBarred, IsCalm, dies-calm}
 use Rattle.machine_safe.proofs.Deaths.LockMoves.{calm-none, dies-locks, dies-nano, gains-own, only-live}
 use Rattle.machine_safe.proofs.Deaths.Rows.{KeepsRows, bit-less, bit-swept, held-is, keeps-same, keeps-then, keeps-with_row, left-held, live-left, row_bit, stage_live, were-swept, were-with_row}
 use Rattle.machine_safe.proofs.Held.{is_holder_is}

@@ -31,7 +31,7 @@ use Rattle.machine_laws.proofs.Fitting.Interrupts.{goes-immediate, goes-interrup
 use Rattle.move_laws.proofs.MoveLaws.Run.{sane-after, sound-move, weight-move}
 use Rattle.machine_safe.specs.CountAfter.{effects_of}
 use Rattle.machine_safe.proofs.Done.{IsDone, done-next, rows-by, rows-choosing}
-use Rattle.machine_safe.proofs.Deaths.Dies.{Dies, dies-then, gains-keeping}
+use Rattle.machine_safe.proofs.Deaths.DeathsTold.{Dies, dies-then, gains-keeping}
 use Rattle.machine_safe.proofs.Deaths.Moves.{dies-move, dies-none, dies-pay}
 use Rattle.state_rows.specs.declared.duty.Owed.{Owed}
 

@@ -33,8 +33,8 @@ use Rattle.move_laws.proofs.Lists.Totals.{total-set, total-with}
 use Rattle.move_laws.proofs.MoveLaws.DeathMoves.{row-is}
 use Rattle.move_laws.proofs.MoveLaws.Pays.{sweep-unheld}
 use Rattle.move_laws.proofs.References.Same.{if_zero, same_object}
-use Rattle.machine_safe.proofs.Deaths.Gone.{not-left}
-use Rattle.machine_safe.proofs.Deaths.Leaves.{handles-none, total-none}
+use Rattle.machine_safe.proofs.Deaths.CleanedIdle.{not-left}
+use Rattle.machine_safe.proofs.Deaths.LeftAtCleaning.{handles-none, total-none}
 use Rattle.machine_safe.proofs.Deaths.Moves.{is_death, keeps-closed, keeps-move}
 use Rattle.machine_safe.proofs.Deaths.Rows.{KeepsRows, held-is, left-held, row_bit}
 

@@ -35,14 +35,14 @@ use Rattle.move_laws.proofs.Lives.LivesMove.{zero_or}
 use Rattle.move_laws.proofs.Lives.Outs.{seeks_is}
 use Rattle.move_laws.proofs.References.Same.{if_is, same_self}
 use Rattle.machine_laws.proofs.Fitting.Actions.{regular-action}
-use Rattle.machine_laws.proofs.Fitting.Living.{open_is_alive}
+use Rattle.machine_laws.proofs.Fitting.LiveObjects.{open_is_alive}
 use Rattle.machine_laws.proofs.Fitting.Regular.{IsFinding, find_bit, finds_by_name}
 use Rattle.machine_safe.specs.CountAfter.{pluses_by}
 use Rattle.machine_safe.proofs.Finders.Dormant.{finds-tell, plus-doing}
 use Rattle.machine_safe.proofs.Finders.Moves.{seeks-doing, seeks-found, seeks-most}
 use Rattle.machine_laws.proofs.Sharing.Seekers.{unseen}
-use Rattle.machine_safe.proofs.Serving.Doing.{Doing, doing}
-use Rattle.machine_safe.proofs.Serving.Later.{part-after}
+use Rattle.machine_safe.proofs.Serving.ActionMoves.{Doing, doing}
+use Rattle.machine_safe.proofs.Serving.LaterSteps.{part-after}
 
 -- whoever is between a find and its return is at an instruction that finds
 abbrev pub AtFinds : Script → State → Type 0

@@ -57,7 +57,7 @@ use Rattle.machine_laws.proofs.Sharing.Told.{is_beside, tell-is, told_by, total-
 use Rattle.move_laws.proofs.MoveLaws.Run.{sound-move}
 use Rattle.machine_safe.proofs.Finders.Moves.{seeks-le}
 use Rattle.machine_laws.proofs.Sharing.Seekers.{turning_bit}
-use Rattle.machine_safe.proofs.Serving.Doing.{Doing, IsGoing, going-then}
+use Rattle.machine_safe.proofs.Serving.ActionMoves.{Doing, IsGoing, going-then}
 
 -- finds are told by moves that find, and by them alone
 abbrev found_by : ObjNo → Effect → ℕ

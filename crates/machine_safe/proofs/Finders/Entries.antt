@@ -42,8 +42,8 @@ use Rattle.machine_safe.proofs.Finders.Actions.{AtFinds, dormant-act, finding, m
 use Rattle.machine_safe.proofs.Finders.Dormant.{finds-tell, plus-doing}
 use Rattle.machine_safe.proofs.Finders.Moves.{seeks-doing, turning-none}
 use Rattle.machine_laws.proofs.Sharing.Seekers.{unseen}
-use Rattle.machine_safe.proofs.Serving.Doing.{Doing, doing, doing-by}
-use Rattle.machine_safe.proofs.Serving.Others.{carries-each, midway-pay, same-instruction, WasMidway}
+use Rattle.machine_safe.proofs.Serving.ActionMoves.{Doing, doing, doing-by}
+use Rattle.machine_safe.proofs.Serving.OtherThreads.{carries-each, midway-pay, same-instruction, WasMidway}
 
 -- what an action tells of who is out, and does to it
 pub record Turns (script : Script) (S T : State) (actor : Actor) (effects : List Effect) : Type 0 where

@@ -19,7 +19,7 @@ use Rattle.move_laws.proofs.References.Same.{if_le}
 use Rattle.machine_laws.proofs.Sharing.Seekers.{turning_bit, seeks-same, seeks-pay, unseen}
 use Rattle.machine_laws.proofs.Fitting.Regular.{find_bit, going_bit}
 use Rattle.machine_laws.proofs.Fitting.Stepping.{later_other}
-use Rattle.machine_safe.proofs.Serving.Doing.{Doing, IsGoing, going-then}
+use Rattle.machine_safe.proofs.Serving.ActionMoves.{Doing, IsGoing, going-then}
 
 -- this is one of those by which a thread goes on
 turning-le : (m : Move) → turning_bit m ≤ going_bit m

@@ -20,7 +20,7 @@ use Rattle.machine.specs.WellFormed.{AreRows, IsAlive}
 use Rattle.move_laws.proofs.Lives.Bits.{alive_there, alive_undead}
 use Rattle.move_laws.proofs.Lives.LivesMove.{zero_or}
 use Rattle.machine_safe.specs.CountAfter.{first_by, is_by, opens, pluses_by}
-use Rattle.machine_safe.proofs.Deaths.Order.{actor-is}
+use Rattle.machine_safe.proofs.Deaths.OnceEach.{actor-is}
 use Rattle.machine_safe.proofs.Done.{done-next, rows-by, rows-choosing}
 use Rattle.machine_safe.proofs.Finders.Actions.{AtFinds}
 use Rattle.machine_safe.proofs.Finders.Entries.{Turns, at-next, turns-next}

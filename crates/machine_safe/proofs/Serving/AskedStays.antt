@@ -26,7 +26,7 @@ use Rattle.machine.specs.declared.request_move.RequestMove.TheVariants.{Begin, C
 use Rattle.machine.specs.declared.state.State.{State}
 use Rattle.machine_laws.proofs.Fitting.Regular.{doomed_bit}
 use Rattle.machine_safe.proofs.Serving.Course.{FoundOf, IsOfKind, IsUnset}
-use Rattle.machine_safe.proofs.Serving.Kinds.{closed-was}
+use Rattle.machine_safe.proofs.Serving.ObjectKinds.{closed-was}
 use Rattle.machine_safe.proofs.Serving.KeptRows.{next-unmade, objects-closed}
 use Rattle.move_laws.proofs.Lists.Mapped.{made-here, made-other}
 use Rattle.move_laws.proofs.Lives.NewObjects.{made-other as new-other, next_number_is}

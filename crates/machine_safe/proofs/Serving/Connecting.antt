@@ -1,9 +1,9 @@
 -- The handle that a `connect` keeps from the step that makes its session on is in the thread's own table, and of no server.
 use Rattle.state_rows.specs.ObjectRows.{place_of}
-use Rattle.machine_safe.proofs.Serving.Owning.{Owned}
-use Rattle.machine_safe.proofs.Serving.Proceeding.{IsProperly}
-use Rattle.machine_safe.proofs.Serving.Unserved.{none-each, server-joined, slot_made}
-use Rattle.machine_safe.proofs.Serving.Later.{Facts, FactThen, IsFact, StepsGive, answered-fact, boot-fact, early-fact, idle-fact, next-fact, other-fact, part-after}
+use Rattle.machine_safe.proofs.Serving.ServerOwners.{Owned}
+use Rattle.machine_safe.proofs.Serving.NextActions.{IsProperly}
+use Rattle.machine_safe.proofs.Serving.NoServers.{none-each, server-joined, slot_made}
+use Rattle.machine_safe.proofs.Serving.LaterSteps.{Facts, FactThen, IsFact, StepsGive, answered-fact, boot-fact, early-fact, idle-fact, next-fact, other-fact, part-after}
 use Rattle.state_rows.specs.declared.duty.Owed.TheVariants as duty
 use Rattle.machine.specs.Find.{is_open, miss, seek_object, find_object}
 use Rattle.machine.specs.Decide.{nothing, one_move}
@@ -36,7 +36,7 @@ use Rattle.machine_laws.proofs.Fitting.Actions.{FitsAction}
 use Rattle.script_types.specs.declared.instruction.Instr.TheVariants as instr
 use Rattle.entry_log.specs.declared.step.Part.TheVariants as part
 use Rattle.machine.specs.declared.moves.Move.TheVariants.{Servers, Pay, GoOn, Wait, Messages, Open}
-use Rattle.machine_safe.proofs.Serving.Others.{Carries, carries-each}
+use Rattle.machine_safe.proofs.Serving.OtherThreads.{Carries, carries-each}
 use Rattle.entry_log.specs.declared.effect.Holder.TheVariants.{InThread}
 use Rattle.state_rows.specs.declared.handle_slot.HandleSlot.{HandleSlot}
 use Rattle.machine.specs.declared.server_move.ServerMove.TheVariants.{SetOpen}
@@ -59,7 +59,7 @@ use Rattle.entry_log.specs.declared.step.Step.TheVariants.{Of}
 use Rattle.machine.specs.declared.message_move.MessageMove.TheVariants.{Accept}
 use Rattle.state_rows.specs.MessageChanges.{new_row}
 use Rattle.state_rows.specs.declared.messages.Way.TheVariants.{Sync}
-use Rattle.machine_laws.proofs.Fitting.Posting.{tame-wake}
+use Rattle.machine_laws.proofs.Fitting.SentMessages.{tame-wake}
 use Rattle.entry_log.specs.declared.entry.Actor.{Actor}
 use Rattle.machine.specs.History.{next}
 use Rattle.machine.specs.Boot.{boot_in}

@@ -17,7 +17,7 @@ use Rattle.entry_log.specs.declared.effect.Holder.{Holder}
 use Rattle.machine.specs.EntryWords.{is_handle}
 use Rattle.machine.specs.Dup.{kind_stays}
 use Rattle.machine.specs.WellFormed.{IsAlive}
-use Rattle.machine_laws.proofs.Fitting.Living.{use_is_alive}
+use Rattle.machine_laws.proofs.Fitting.LiveObjects.{use_is_alive}
 use Rattle.std.proofs.Common.{Bool, List, None, Option, Some, ap, false, get_or, refl, subst, sym, true, ℕ, ◌∙◌, ◌∷◌, ◌≡◌}
 use Rattle.std.specs.Prelude.{is_some, if◌then◌else◌, ◌==◌}
 use Rattle.script_types.specs.declared.instruction.Instr.{Instr}

@@ -11,7 +11,7 @@ use Rattle.sym_base.specs.declared.error.Error.TheVariants.{InUse}
 use Rattle.state_rows.specs.MessageChanges.{next_of}
 use Rattle.sym_base.specs.declared.word.Word.TheVariants as word
 use Rattle.state_rows.specs.declared.thread.Waiting.TheVariants as waiting
-use Rattle.machine_safe.proofs.Serving.Later.{part-after}
+use Rattle.machine_safe.proofs.Serving.LaterSteps.{part-after}
 use Rattle.std.proofs.Common.{Bool, List, None, Option, Some, ap, arith, false, inl, inr, refl, subst, sym, true, ℕ, ℤ, ◌∙◌, ◌∷◌, ◌≡◌}
 use Rattle.std.specs.Prelude.{if◌then◌else◌, is_some, pos, ◌&&◌}
 use Rattle.script_types.specs.declared.instruction.Instr.{Instr}
@@ -32,7 +32,7 @@ use Rattle.machine_laws.proofs.Fitting.Actions.{FitsAction}
 use Rattle.machine.specs.declared.moves.Move.{Move}
 use Rattle.sym_base.specs.declared.kind.Kind.TheVariants as kind
 use Rattle.machine.specs.Handles.{thread_handle}
-use Rattle.machine_safe.proofs.Serving.Others.{carries-each}
+use Rattle.machine_safe.proofs.Serving.OtherThreads.{carries-each}
 use Rattle.machine.specs.References.{total}
 use Rattle.machine.specs.declared.handles.NewHandle.{NewHandle}
 use Rattle.move_laws.proofs.Lists.Cases.{if_cases}
@@ -44,11 +44,11 @@ use Rattle.state_rows.specs.Requests.{is_pending, reply_of}
 use Rattle.machine.specs.SessionCalls.{send_to, send_do, call_to, call_do, make_session, connect_to, connect_make, send_connect, connect_send, connect_done, session_made}
 use Rattle.state_rows.specs.MessageRows.{is_full}
 use Rattle.machine.specs.Messaging.{slots_of, open_server, server_to_open}
-use Rattle.machine_safe.proofs.Serving.Sending.{to-open-is}
+use Rattle.machine_safe.proofs.Serving.SendingSteps.{to-open-is}
 use Rattle.sym_base.specs.declared.kind.Arg.{Arg}
 use Rattle.script_types.specs.declared.instruction.Args.{Args}
 use Rattle.machine.specs.Fits.{EachFits}
-use Rattle.machine_laws.proofs.Fitting.Posting.{tame-wake}
+use Rattle.machine_laws.proofs.Fitting.SentMessages.{tame-wake}
 use Rattle.sym_base.specs.declared.number.MsgNo.{MsgNo}
 use Rattle.machine.specs.ServerCalls.{receive_next, receive_do, receive_came, receive_done}
 use Rattle.machine.specs.declared.moves.Move.TheVariants.{GoOn, Wait}

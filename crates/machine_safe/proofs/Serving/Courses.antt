@@ -14,7 +14,7 @@ use Rattle.machine_safe.proofs.Serving.ProperLists.{proper-doom, proper-doom_whe
 use Rattle.sym_base.specs.declared.error.Error.TheVariants.{InUse, Overflow, General}
 use Rattle.sym_base.specs.declared.word.Word.TheVariants as word
 use Rattle.state_rows.specs.declared.thread.Waiting.TheVariants as waiting
-use Rattle.machine_safe.proofs.Serving.Later.{part-after}
+use Rattle.machine_safe.proofs.Serving.LaterSteps.{part-after}
 use Rattle.state_rows.specs.declared.object.ObjectRow.{ObjectRow}
 use Rattle.std.proofs.Common.{Bool, None, Option, Some, ap, false, not, refl, subst, sym, true, ℕ, ◌∙◌, ◌∷◌, ◌≡◌, []}
 use Rattle.std.proofs.lemmas.Bool.{and_parts, eqb-true}

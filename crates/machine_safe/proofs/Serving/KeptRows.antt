@@ -18,7 +18,7 @@ use Rattle.machine.specs.declared.moves.Move.TheVariants.{Advance, Death, Find, 
 use Rattle.machine.specs.declared.server_move.ServerMove.TheVariants.{CloseAll, SetOpen}
 use Rattle.machine.specs.declared.state.State.{State}
 use Rattle.machine_laws.proofs.Fitting.Regular.{advance_bit}
-use Rattle.machine_safe.proofs.Serving.Keeps.{WasAt, WasServer, changing_bit, steps_of}
+use Rattle.machine_safe.proofs.Serving.KeptServers.{WasAt, WasServer, changing_bit, steps_of}
 use Rattle.move_laws.proofs.Holders.ThreadRows.{row-here, row-other}
 use Rattle.move_laws.proofs.Lists.Mapped.{made-here, made-other}
 use Rattle.move_laws.proofs.Lives.NewObjects.{made-other as new-other, next_number_is}

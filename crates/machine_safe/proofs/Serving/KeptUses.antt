@@ -31,7 +31,7 @@ use Rattle.machine.specs.declared.request_move.RequestMove.{RequestMove}
 use Rattle.machine.specs.declared.server_move.ServerMove.{ServerMove}
 use Rattle.machine.specs.declared.server_move.ServerMove.TheVariants.{CloseAll, End, Join, SetOpen}
 use Rattle.machine.specs.declared.state.State.{State}
-use Rattle.machine_safe.proofs.Serving.Keeps.{StillLinked, UsesTold, WasSession, WasUsing, changing_bit, detach_bit}
+use Rattle.machine_safe.proofs.Serving.KeptServers.{StillLinked, UsesTold, WasSession, WasUsing, changing_bit, detach_bit}
 use Rattle.machine_safe.specs.Served.{one_if}
 use Rattle.machine_safe.specs.Slotted.{used_told}
 use Rattle.move_laws.proofs.Holders.ThreadRows.{row-here, row-other}

@@ -28,7 +28,7 @@ use Rattle.state_rows.specs.MessageRows.{message_of}
 use Rattle.machine.specs.Serving.{call_names, is_called, times_called}
 use Rattle.machine.specs.WellFormed.{AreRows}
 use Rattle.machine_laws.proofs.Fitting.Finishing.{at_number}
-use Rattle.machine_laws.proofs.Fitting.Working.{IsGiven}
+use Rattle.machine_laws.proofs.Fitting.ServerEnds.{IsGiven}
 use Rattle.move_laws.proofs.Readiness.FirstReady.{greatest_listed}
 use Rattle.move_laws.proofs.RowLaws.Rising.{one_goes}
 use Rattle.state_rows.specs.Locks.{waiters_at}

@@ -27,7 +27,7 @@ use Rattle.machine_laws.proofs.Fitting.Actions.{of_action}
 use Rattle.machine_laws.proofs.Fitting.Bodies.{Goes}
 use Rattle.machine_laws.proofs.Fitting.Interrupts.{goes-immediate, goes-interrupt, sane-supervisor}
 use Rattle.move_laws.proofs.MoveLaws.Run.{sane-after, sound-move, weight-move}
-use Rattle.machine_safe.proofs.Serving.Proceeding.{IsProperly}
+use Rattle.machine_safe.proofs.Serving.NextActions.{IsProperly}
 use Rattle.machine_safe.proofs.Serving.Proper.{AreProper, Going, IsProper, onward, resting, stepping}
 use Rattle.machine_safe.proofs.Serving.ProperLists.{proper-body}
 

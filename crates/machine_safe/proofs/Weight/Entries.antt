@@ -52,18 +52,18 @@ use Rattle.machine_laws.proofs.Fitting.Interrupts.{goes-immediate, goes-interrup
 use Rattle.machine_laws.proofs.Fitting.Regular.{serving_bit}
 use Rattle.machine_safe.specs.CountAfter.{is_by}
 use Rattle.machine_safe.proofs.Serving.Connecting.{KeepHandles}
-use Rattle.machine_safe.proofs.Serving.Deeds.{behind, IsFinishing, IsSending, OfEach}
-use Rattle.machine_safe.proofs.Serving.Doing.{Doing, doing}
-use Rattle.machine_safe.proofs.Serving.Giving.{deed-of}
-use Rattle.machine_safe.proofs.Serving.Keeps.{message_bit}
-use Rattle.machine_safe.proofs.Serving.Proceeding.{IsProperly}
+use Rattle.machine_safe.proofs.Serving.ServerActions.{behind, IsFinishing, IsSending, OfEach}
+use Rattle.machine_safe.proofs.Serving.ActionMoves.{Doing, doing}
+use Rattle.machine_safe.proofs.Serving.GivingUp.{deed-of}
+use Rattle.machine_safe.proofs.Serving.KeptServers.{message_bit}
+use Rattle.machine_safe.proofs.Serving.NextActions.{IsProperly}
 use Rattle.machine_safe.proofs.Serving.Proper.{AreProper, stepping}
 use Rattle.move_laws.proofs.Lists.Cases.{if_cases}
 use Rattle.move_laws.proofs.Lists.Totals.{total-append}
 use Rattle.machine_safe.proofs.Weight.Lighter.{Lighter, lighter-at-most, lighter-none}
 use Rattle.machine_safe.proofs.Weight.Lists.{none-or}
 use Rattle.machine_safe.proofs.Weight.Lowers.{are_aside, aside-quiet, lighter-each}
-use Rattle.machine_safe.proofs.Weight.Mates.{gains-by}
+use Rattle.machine_safe.proofs.Weight.ProcessTables.{gains-by}
 use Rattle.machine_safe.proofs.Weight.Moves.{gain_bit, made_bit, open-unowned, post_bit}
 use Rattle.machine_safe.proofs.Weight.Others.{lighter-pay}
 use Rattle.machine_safe.proofs.Weight.Own.{IsQuiet, quiet-both, quiet-end, quiet-none, quiet-refused, quiet-reply_to}

@@ -39,8 +39,8 @@ use Rattle.machine.specs.declared.moves.Move.TheVariants as move
 use Rattle.machine.specs.declared.request_move.RequestMove.TheVariants.{Signal}
 use Rattle.machine.specs.declared.server_move.ServerMove.TheVariants.{End, SetOpen}
 use Rattle.machine.specs.declared.state.State.{State}
-use Rattle.machine_safe.proofs.Serving.Doing.{fits-front, perform-append}
-use Rattle.machine_safe.proofs.Serving.Sending.{open_is}
+use Rattle.machine_safe.proofs.Serving.ActionMoves.{fits-front, perform-append}
+use Rattle.machine_safe.proofs.Serving.SendingSteps.{open_is}
 use Rattle.move_laws.proofs.Lists.Cases.{if_cases}
 use Rattle.move_laws.proofs.Lists.Contents.{contains_filter}
 use Rattle.move_laws.proofs.Lists.Totals.{total-append}

@@ -1,11 +1,9 @@
-use Rattle.std.proofs.Common.{arith, refl}
-use Rattle.script_words.proofs.Keywords.{begins_with, begins_nothing}
+use Rattle.std.proofs.Common.{◌∙◌, sym}
+use Rattle.script_words.proofs.Keywords.{begins_instr, begins_line}
 use Rattle.script_words.proofs.keyword.keyword_of.Goals as goal
 
-pub returns-in-empty : goal.returns-in-empty
-returns-in-empty c = let none = c.in-empty.len_below in begins_nothing c.args.word.now (omega arith)
+pub returns-in-Some : goal.returns-in-Some
+returns-in-Some c = begins_instr c.args.word.now c.in-Some.instr (sym c.in-Some.is ∙ c.of.ensures)
 
-pub returns-in-len1-up : goal.returns-in-len1-up
-returns-in-len1-up c =
-    let some = c.in-len1-up.len_at_least in
-    begins_with c.args.word.now _ c.keyword_with.result (omega arith) refl c.keyword_with.ensures
+pub returns-in-None : goal.returns-in-None
+returns-in-None c = begins_line c.args.word.now c.line_keyword.result (sym c.in-None.is ∙ c.of.ensures) c.line_keyword.ensures

@@ -9,7 +9,7 @@ loop-letter-init g c = sym (append-nil _)
 pub push-requires : goal.push-requires
 push-requires g c =
     let long = ap length c.loop-letter.invariant in
-    (omega arith, grind (arith, common_steps))
+    grind (arith, common_steps)
 
 pub loop-letter-preserved : goal.loop-letter-preserved
 loop-letter-preserved g c =

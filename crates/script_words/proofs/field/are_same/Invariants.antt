@@ -1,7 +1,0 @@
-use Rattle.std.proofs.Common.{◌≡◌, drop}
-use Rattle.std.specs.Str.{bytes_eq}
-use Rattle.script_words.proofs.field.are_same.Given as goal
-
--- the bytes that are left decide
-abbrev pub invariant-loop-i : goal.invariant-loop-i
-invariant-loop-i l = bytes_eq (drop l.i l.fn.one) (drop l.i l.fn.other) ≡ bytes_eq l.fn.one l.fn.other
