@@ -5,8 +5,8 @@ ghost use Rattle.machine.specs.Create.{start_moves, make_with_handle, create_do,
 use entry_log::{Part, Step, Word};
 use machine::{Decision, LockMove, Move, NewHandle, ThreadRow};
 use readings::Reads;
+use step_answers::{answer_handle, refuse};
 use sym_base::{Error, Kind, Name, ThreadNo};
-use thread_decisions::{answer_handle, refuse};
 
 const STEP: Step = Step::Of(Word::Create, Part::Do);
 

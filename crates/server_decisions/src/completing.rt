@@ -8,8 +8,8 @@ use entry_log::{Part, Step, Word};
 use machine::{Decision, ThreadRow};
 use readings::Reads;
 use state_rows::Message;
+use step_answers::{answer, answer_at_once, refuse};
 use sym_base::{Error, MsgNo, ThreadNo};
-use thread_decisions::{answer, answer_at_once, refuse};
 
 const COMPLETE: Step = Step::Of(Word::Complete, Part::Do);
 

@@ -9,10 +9,10 @@ use entry_log::{Part, Step, Word};
 use machine::{Decision, Move, NewHandle, ServerMove, ThreadRow, Waiting, holder_of};
 use readings::Reads;
 use state_rows::Way;
-use sym_base::{Error, Kind, Name, ObjNo, Slots, ThreadNo};
-use thread_decisions::{
+use step_answers::{
     answer_after, answer_handle, nothing, object_at, refuse, refuse_holder, return_to, seek,
 };
+use sym_base::{Error, Kind, Name, ObjNo, Slots, ThreadNo};
 
 const MAKE: Step = Step::Of(Word::Connect, Part::Make);
 

@@ -9,8 +9,8 @@ ghost use Rattle.state_rows.specs.ServerRows.{is_closing, owner_of};
 use machine::{MessageMove, Move, Moves, RequestMove, ServerMove, ThreadRow, Waiting};
 use readings::Reads;
 use state_rows::{Connection, Message, MsgRow, Stage, Way};
+use step_answers::ends_wait;
 use sym_base::{Arg, ObjNo, Slots, ThreadNo};
-use thread_decisions::ends_wait;
 
 /// The function of the message that connects a session.
 const CONNECTS: i32 = -1;

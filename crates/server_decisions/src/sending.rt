@@ -11,10 +11,8 @@ use machine::{Decision, Move, RequestMove, ThreadRow, Waiting};
 use readings::Reads;
 use script_types::Args;
 use state_rows::Way;
+use step_answers::{answer, answer_at_once, is_pending, look_kind, nothing, refuse, refuse_holder};
 use sym_base::{Arg, Error, Kind, ObjNo, ThreadNo};
-use thread_decisions::{
-    answer, answer_at_once, is_pending, look_kind, nothing, refuse, refuse_holder,
-};
 
 /// The second step of `send`.
 const SEND: Step = Step::Of(Word::Send, Part::Do);

@@ -6,10 +6,8 @@ ghost use Rattle.machine.specs.ServerCalls.{make_server, server_do, take_message
 use entry_log::{Holder, Part, Step, Word};
 use machine::{Decision, MessageMove, Move, NewHandle, ServerMove, ThreadRow, Waiting};
 use readings::Reads;
+use step_answers::{answer, answer_handle, look_kind, nothing, refuse, refuse_holder, wait_for};
 use sym_base::{Error, Kind, MsgNo, Name, ObjNo, ThreadNo};
-use thread_decisions::{
-    answer, answer_handle, look_kind, nothing, refuse, refuse_holder, wait_for,
-};
 
 /// The step of `server`.
 const SERVER: Step = Step::Of(Word::Server, Part::Do);

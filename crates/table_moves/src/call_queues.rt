@@ -28,7 +28,7 @@ pub struct CallQueues {
 }
 
 impl Model for CallQueues {
-    ghost use Rattle.std.specs.Prelude.{◌≡◌, ◌≤◌, ◌×◌, length};
+    ghost use Rattle.std.specs.Prelude.{◌≡◌, ◌≤◌, length};
     ghost use Rattle.state_rows.specs.declared.deferred.DeferredRows.{DeferredRows};
 
     ghost Value = { DeferredRows };

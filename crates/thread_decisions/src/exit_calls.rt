@@ -6,13 +6,12 @@ ghost use Rattle.machine.specs.ExitCalls.{exit_unless_noted, exit_on, exit_step,
 ghost use Rattle.sym_base.specs.declared.kind.ExitKind.TheVariants as kind;
 ghost use Rattle.sym_base.specs.declared.word.Word.TheVariants as word;
 
-use crate::decide::{answer, answer_at_once, nothing, refuse};
 use crate::dooms::{doom, doom_or_note, noted_of, plain_exit};
-use crate::looks::look_kind;
 use crate::thread_calls::refusal_of;
 use entry_log::{Part, Step, Word};
 use machine::{Decision, ThreadRow};
 use readings::Reads;
+use step_answers::{answer, answer_at_once, look_kind, nothing, refuse};
 use sym_base::{Error, Exit, ExitKind, Kind, Name, ObjNo, ThreadNo};
 
 /// The thread is doomed, or its exit is noted, where none is noted already.

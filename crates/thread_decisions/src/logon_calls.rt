@@ -2,13 +2,11 @@
 ghost use Rattle.std.specs.Prelude.{◌≡◌, ◌<◌};
 ghost use Rattle.machine.specs.LogonCalls.{reason_of, logon_move, logon_row, logon_do, logon_step};
 
-use crate::decide::{answer, nothing, refuse};
-use crate::looks::look_kind;
-use crate::statuses::is_pending;
 use entry_log::{Part, Step, Word};
 use machine::{Decision, LogonMove, Move, RequestMove, ThreadRow};
 use readings::Reads;
 use state_rows::Stage;
+use step_answers::{answer, is_pending, look_kind, nothing, refuse};
 use sym_base::{Error, Exit, Kind, ObjNo, ThreadNo};
 
 /// The reason of an exit, 0 without one.

@@ -6,12 +6,11 @@ ghost use Rattle.machine.specs.declared.moves.Move.TheVariants.{SetPriority};
 ghost use Rattle.sym_base.specs.declared.error.Error.TheVariants as error;
 ghost use Rattle.sym_base.specs.declared.word.Word.TheVariants as word;
 
-use crate::decide::{answer_after, nothing, refuse};
-use crate::looks::look_kind;
 use entry_log::{Part, Step, Word};
 use machine::{Decision, Move, NanoMove, Role, ThreadRow};
 use readings::Reads;
 use state_rows::Stage;
+use step_answers::{answer_after, look_kind, nothing, refuse};
 use sym_base::{Error, Kind, ObjNo, ThreadNo};
 
 /// The greatest suspend count.

@@ -11,8 +11,8 @@ use entry_log::{Part, Step, Word};
 use machine::{Decision, Move, RequestMove, Waiting};
 use readings::Reads;
 use state_rows::Request;
+use step_answers::{answer_after, answer_at_once, is_pending, refuse, refuse_holder, wait_for};
 use sym_base::{Error, ThreadNo};
-use thread_decisions::{answer_after, answer_at_once, is_pending, refuse, wait_for};
 
 /// The device gets the request, unless it has one or the status is pending.
 pub fn request_do<R: Reads>(
@@ -99,13 +99,8 @@ pub fn waitany_step<R: Reads>(
     if part.is_some() {
         return take_signal(decision, thread, Step::Of(Word::Waitany, Part::Done), 0);
     }
-    if reads.is_holding(thread) {
-        return refuse(
-            decision,
-            thread,
-            Step::Of(Word::Waitany, Part::Do),
-            Error::InUse,
-        );
+    if refuse_holder(decision, reads, thread, Step::Of(Word::Waitany, Part::Do)) {
+        return;
     }
     waitany_do(decision, reads, thread)
 }
@@ -136,13 +131,8 @@ pub fn waitfor_step<R: Reads>(
         let step = Step::Of(Word::Waitfor, Part::Done);
         return take_signal(decision, thread, step, reads.value_of(thread, status));
     }
-    if reads.is_holding(thread) {
-        return refuse(
-            decision,
-            thread,
-            Step::Of(Word::Waitfor, Part::Do),
-            Error::InUse,
-        );
+    if refuse_holder(decision, reads, thread, Step::Of(Word::Waitfor, Part::Do)) {
+        return;
     }
     waitfor_do(decision, reads, thread, status)
 }

@@ -63,7 +63,7 @@ pub fn look<R: Reads>(
 }
 
 /// Whether an object is of a kind.
-pub fn is_of_kind(kind: Kind, row: Option<ObjectRow>) -> bool
+fn is_of_kind(kind: Kind, row: Option<ObjectRow>) -> bool
     ensures { result ≡ is_of_kind kind row }
 {
     match row {

@@ -1,7 +1,7 @@
 use Rattle.std.proofs.Common.{◌≤◌, arith}
 use Rattle.copy_rules.specs.Refusals.{write_refusal}
 use Rattle.server_decisions.proofs.GoingOn.{goes_on}
-use Rattle.server_decisions.proofs.copying.write_next.Goals as goal
+use Rattle.server_decisions.proofs.memory.write_next.Goals as goal
 
 pub write_answer-piece-requires : goal.write_answer-piece-requires
 write_answer-piece-requires c =

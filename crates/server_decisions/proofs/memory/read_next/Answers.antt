@@ -2,7 +2,7 @@ use Rattle.std.proofs.Common.{◌≤◌, arith}
 use Rattle.copy_rules.specs.Refusals.{read_refusal}
 use Rattle.copy_rules.specs.Sizes.{read_size}
 use Rattle.server_decisions.proofs.GoingOn.{goes_on}
-use Rattle.server_decisions.proofs.copying.read_next.Goals as goal
+use Rattle.server_decisions.proofs.memory.read_next.Goals as goal
 
 pub read_answer-piece-requires : goal.read_answer-piece-requires
 read_answer-piece-requires c =

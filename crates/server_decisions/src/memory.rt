@@ -1,8 +1,10 @@
-//! `read` and `write`: a server copies bytes between its client's memory and its own, a piece a step (Symbian OS Internals, the
-//! chapter on inter-process communication, on descriptors of clients).
+//! `fill` and `peek`: the memory of the thread's process. `read` and `write`: a server copies bytes between its client's
+//! memory and its own, a piece a step (Symbian OS Internals, the chapter on inter-process communication, on descriptors
+//! of clients).
 ghost use Rattle.std.specs.Prelude.{◌≡◌, ◌≤◌, ◌<◌, Some};
 ghost use Rattle.copy_rules.specs.declared.job.Piece.TheVariants as Piece;
 ghost use Rattle.machine.specs.Copying.{copy_piece, first_job, message_ends, next_job, read_next, read_piece, read_step, whole_answer, write_next, write_piece, write_step};
+ghost use Rattle.machine.specs.MemoryCalls.{fill_do, peek_do};
 
 use crate::completing::message_at;
 use copy_rules::{
@@ -12,15 +14,49 @@ use copy_rules::{
 use entry_log::{Part, Step, Word};
 use machine::{Decision, Move, ThreadRow};
 use readings::Reads;
-use state_rows::Message;
+use state_rows::{MEMORY, Message};
+use step_answers::{answer_after, answer_at_once, nothing, refuse};
 use sym_base::{Error, ThreadNo};
-use thread_decisions::{answer_after, nothing, refuse};
 
 /// The step of `read`.
 const READ: Step = Step::Of(Word::Read, Part::Piece);
 
 /// The step of `write`.
 const WRITE: Step = Step::Of(Word::Write, Part::Piece);
+
+/// So many bytes from an offset on get a value, unless they pass the memory's end.
+pub fn fill_do(
+    decision: &mut Decision,
+    thread: ThreadNo,
+    row: &ThreadRow,
+    at: u16,
+    length: u16,
+    byte: u8,
+)
+    ensures { decision.new ≡ fill_do thread row.now at length byte }
+{
+    let step = Step::Of(Word::Fill, Part::Do);
+    if at as usize + length as usize > MEMORY {
+        return refuse(decision, thread, step, Error::Argument);
+    }
+    let fill = Move::Fill(row.process, at, length, byte);
+    answer_after(decision, thread, step, fill, 0)
+}
+
+/// The byte at an offset is answered.
+pub fn peek_do<R: Reads>(
+    decision: &mut Decision,
+    reads: &R,
+    thread: ThreadNo,
+    row: &ThreadRow,
+    at: u16,
+)
+    ensures { decision.new ≡ peek_do (R.state reads.now) thread row.now at }
+{
+    let step = Step::Of(Word::Peek, Part::Do);
+    let byte = reads.byte(row.process, at);
+    answer_at_once(decision, thread, step, i32::from(byte))
+}
 
 /// Bytes are left: the piece is copied, and the thread keeps how many are copied then.
 fn copy_more(decision: &mut Decision, thread: ThreadNo, step: Step, copy: CopyMove, done: u16)
