@@ -4,11 +4,7 @@ ghost use Rattle.entry_log.specs.EntryLine.{entry_line};
 ghost use Rattle.entry_log.specs.FinalLine.{final_line};
 ghost use Rattle.history_check.specs.FirstLines.{Begins};
 
-use arrayvec::ArrayVec;
-use entry_log::{Entry, FinalRow, entry_text, final_text};
-
-/// The bytes of a line, its line feed among them.
-type Line = ArrayVec<u8, 512>;
+use entry_log::{Entry, FinalRow, line_of_entry, line_of_row};
 
 /// What stands in a text behind a piece that it begins with. None if it doesn't begin with that.
 pub fn behind<'a>(text: &'a [u8], piece: &[u8]) -> Option<&'a [u8]>
@@ -19,24 +15,6 @@ pub fn behind<'a>(text: &'a [u8], piece: &[u8]) -> Option<&'a [u8]>
     }
     let (front, rest) = text.split_at(piece.len());
     if front == piece { Some(rest) } else { None }
-}
-
-/// The line of an entry.
-fn line_of_entry(entry: &Entry) -> Line
-    ensures { result.items ≡ entry_line entry.now }
-{
-    let mut line = Line::new();
-    let _ = entry_text(entry, &mut line);
-    line
-}
-
-/// The line of an object that is left.
-fn line_of_row(row: &FinalRow) -> Line
-    ensures { result.items ≡ final_line row.now }
-{
-    let mut line = Line::new();
-    let _ = final_text(row, &mut line);
-    line
 }
 
 /// What stands behind the line of an entry. None if the text doesn't begin with that.
