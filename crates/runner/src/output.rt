@@ -1,5 +1,5 @@
 //! Writing a history, or the line of a refusal. Each line goes out with its line feed, by one `write_whole`.
-ghost use Rattle.std.specs.Prelude.{◌≡◌, ◌≤◌, [], ◌∷◌, drop, is_some, length, OnOk, OnErr};
+ghost use Rattle.std.specs.Prelude.{◌≡◌, ◌≤◌, [], ◌∷◌, is_some, OnOk, OnErr};
 ghost use Rattle.std.specs.List.{flat_map};
 ghost use Rattle.edge_io.specs.Faults.{Rose};
 ghost use Rattle.edge_io.specs.Written.{Wrote, WrotePrefix};
@@ -16,7 +16,7 @@ ghost use Rattle.script_types.specs.Source.{IsWellFormed};
 use crate::detail::Detail;
 use arrayvec::ArrayVec;
 use edge_io::{Failed, Sink, write_whole};
-use entry_log::{Entry, FinalRow, entry_text, final_text};
+use entry_log::{Entry, EntryLine, FinalRow, final_text};
 use itoa::Buffer;
 use kcore::Kernel;
 use ref_words::RefWords;
@@ -24,35 +24,6 @@ use script_read::Reason;
 
 /// The bytes of a line, its line feed among them.
 pub type Line = ArrayVec<u8, 512>;
-
-/// Where so much room is left, a buffer takes the line of any entry at once.
-const LONGEST: usize = 192;
-
-/// Puts the line of an entry behind what a buffer holds, or in its place, and says where it begins. A buffer is
-/// emptied by writing over what it held, so that one line after the other stands in it until it is nearly full.
-fn put_entry(line: &mut Line, entry: &Entry) -> usize
-    ensures begins { result ≤ length line.new.items }
-    ensures stands { drop result line.new.items ≡ entry_line entry.now }
-{
-    if line.remaining_capacity() < LONGEST {
-        line.clear();
-    }
-    let from = line.as_slice().len();
-    if entry_text(entry, line) {
-        return from;
-    }
-    line.clear();
-    let _ = entry_text(entry, line);
-    0
-}
-
-/// The bytes of a buffer from a place on.
-fn bytes_from(line: &Line, from: usize) -> &[u8]
-    requires { from ≤ length line.now.items }
-    ensures { result.now ≡ drop from line.now.items }
-{
-    &line.as_slice()[from..]
-}
 
 /// Puts the line of an object that is left into a buffer, in place of what it held.
 fn put_row(line: &mut Line, row: &FinalRow)
@@ -76,10 +47,10 @@ fn line_of_refusal(line: u32, reason: Reason) -> Line
     text
 }
 
-/// Writes the line of an entry, where the detail shows it, by way of a buffer.
+/// Writes the line of an entry, if the detail shows it, made in the place of the one before it.
 fn write_entry<K: Sink>(
     sink: &mut K,
-    line: &mut Line,
+    line: &mut EntryLine,
     detail: Detail,
     entry: &Entry,
 ) -> Result<(), Failed>
@@ -92,15 +63,15 @@ fn write_entry<K: Sink>(
     if !detail.shows(entry) {
         return Ok(());
     }
-    let from = put_entry(line, entry);
-    write_whole(sink, bytes_from(line, from))
+    line.put(entry);
+    write_whole(sink, line.as_slice())
 }
 
-/// Writes the line of each entry that the detail shows, by way of one buffer.
+/// Writes the line of each entry that the detail shows, each made in the place of the one before it.
 #[inline(never)]
 fn write_entries<K: Sink>(
     sink: &mut K,
-    line: &mut Line,
+    line: &mut EntryLine,
     detail: Detail,
     entries: &[Entry],
 ) -> Result<(), Failed>
@@ -141,7 +112,7 @@ fn write_rows<K: Sink, W: RefWords + Drop>(
 }
 
 /// Writes the history of a kernel, which one caller made alone or callers who share it: the entries that the detail shows,
-/// and the objects that are left. One buffer holds each line in turn.
+/// and the objects that are left. One buffer holds the line of each entry in turn, and one that of each object.
 fn write_history<K: Sink, W: RefWords + Drop>(
     sink: &mut K,
     detail: Detail,
@@ -158,10 +129,9 @@ fn write_history<K: Sink, W: RefWords + Drop>(
     ensures fault { OnErr result (Rose (K.faults sink.old) (K.faults sink.new)) }
     ensures never_falls { K.faults sink.old ≤ K.faults sink.new }
 {
-    let mut line = Line::new();
-    write_entries(sink, &mut line, detail, kernel.history())?;
+    write_entries(sink, &mut EntryLine::new(), detail, kernel.history())?;
     write_whole(sink, b"objects\n")?;
-    write_rows(sink, &mut line, kernel)?;
+    write_rows(sink, &mut Line::new(), kernel)?;
     write_whole(sink, b"end\n")
 }
 
