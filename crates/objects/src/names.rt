@@ -1,5 +1,5 @@
 //! The numbers of the objects that have names, in the order of the names.
-ghost use Rattle.std.specs.Prelude.{◌≡◌, ◌<◌, false, IfOk, IsTrue, ◌≤◌, None, length, slice_index, vec_capacity, vec_len, []};
+ghost use Rattle.std.specs.Prelude.{◌≡◌, ◌<◌, false, IfOk, IsTrue, ◌≤◌, None, Some, length, slice_index, vec_capacity, vec_len, []};
 ghost use Rattle.std.specs.List.{insert, remove};
 ghost use Rattle.state_rows.specs.ObjectRows.{with_object};
 ghost use Rattle.objects.specs.Rows.{row_at, is_there};
@@ -17,6 +17,8 @@ use sym_base::{Kind, Limits, Name, NoMemory};
 #[derive(Drop)]
 pub struct Names {
     numbers: Vec<u16>,
+    /// Where an object was listed last. It is looked at first where one goes: often that is the youngest.
+    last: usize,
 }
 
 impl Model for Names {
@@ -35,7 +37,7 @@ impl Names {
         ensures { IfOk result (λ names. names ≡ []) }
     {
         let numbers = Vec::with_capacity(alloc, Limits::OBJECTS)?;
-        Ok(Names { numbers })
+        Ok(Names { numbers, last: 0 })
     }
 
     /// The place of the object of a kind and a name, or else the place where it would come.
@@ -104,7 +106,26 @@ impl Names {
     {
         if !is_session(kind) {
             insert_at(&mut self.numbers, place, number as u16);
+            self.last = place;
         }
+    }
+
+    /// The place of an unswept object that has a name.
+    fn place_listed(
+        &self,
+        rows: &[Option<ObjectRow>],
+        number: usize,
+        row: &ObjectRow,
+    ) -> Result<usize, usize>
+        requires listed { AreListed rows.now self.now }
+        requires row { row_at rows.now number ≡ Some row.now }
+        ensures { IsPlace rows.now self.now (key_of (row_at rows.now number)) result }
+    {
+        let place = self.last;
+        if place < self.numbers.len() && self.numbers[place] as usize == number {
+            return Ok(place);
+        }
+        self.place_of(rows, row.kind, &row.name)
     }
 
     /// Takes an unswept object, whose row is about to go, out of the list.
@@ -119,7 +140,7 @@ impl Names {
         if is_session(row.kind) {
             return;
         }
-        if let Ok(place) = self.place_of(rows, row.kind, &row.name) {
+        if let Ok(place) = self.place_listed(rows, number, row) {
             remove_at(&mut self.numbers, place);
         }
     }
@@ -162,7 +183,7 @@ fn order(row: &Option<ObjectRow>, kind: Kind, name: &Name) -> Ordering
     };
     let (listed, wanted) = (row.kind as u8, kind as u8);
     if listed == wanted {
-        row.name.as_slice().cmp(&name.as_slice())
+        row.name.order(name)
     } else if listed < wanted {
         Ordering::Less
     } else {

@@ -1,5 +1,5 @@
 -- Rows of threads and processes.
-use Rattle.std.specs.Prelude.{◌≡◌, ℕ, ◌<◌, Bool, false, List, [], length, Some, None, is_some, unwrap_or, replicate, slice_index, slice_index_or, slice_set}
+use Rattle.std.specs.Prelude.{◌≡◌, ℕ, ◌+◌, ◌<◌, Bool, false, List, [], ◌++◌, length, take, drop, Some, None, is_some, unwrap_or, replicate, slice_index, slice_index_or, slice_set}
 use Rattle.sym_base.specs.declared.number.ObjNo.{ObjNo}
 use Rattle.state_rows.specs.declared.thread.ThreadRow.{ThreadRow}
 use Rattle.state_rows.specs.ThreadRows.{new_thread}
@@ -47,3 +47,7 @@ with_row rows t row = record rows { threads = slice_set rows.threads t.0 (Some r
 -- a process has these bytes, and nothing else changes
 abbrev pub with_process : ProcsRows → ObjNo → List ℕ → ProcsRows
 with_process rows p bytes = record rows { processes = slice_set rows.processes p.0 (Some bytes) }
+
+-- bytes, of which so many from an offset on have a value
+abbrev pub filled : ℕ → ℕ → ℕ → List ℕ → List ℕ
+filled at length byte bytes = take at bytes ++ replicate length byte ++ drop (at + length) bytes

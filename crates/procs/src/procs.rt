@@ -1,6 +1,6 @@
 //! The table of threads and processes, and its calls.
-ghost use Rattle.std.specs.Prelude.{◌≡◌, ◌<◌, ◌≤◌, IsTrue, IfOk, is_some, length, option_copied, replicate, slice_index, slice_index_or, slice_set, None};
-ghost use Rattle.procs.specs.Rows.{no_rows, is_thread, is_process, IsFresh, row_of, bytes_of, byte_at, with_row, with_process, no_bytes};
+ghost use Rattle.std.specs.Prelude.{◌≡◌, ◌+◌, ◌<◌, ◌≤◌, IsTrue, IfOk, is_some, length, option_copied, replicate, slice_index, slice_index_or, slice_set, None};
+ghost use Rattle.procs.specs.Rows.{no_rows, is_thread, is_process, IsFresh, row_of, bytes_of, byte_at, filled, with_row, with_process, no_bytes};
 ghost use Rattle.state_rows.specs.ThreadRows.{new_thread};
 
 mod reading;
@@ -164,6 +164,17 @@ impl Procs {
     {
         if let Some(bytes) = &mut self.processes[p.0 as usize] {
             bytes.set(at as usize, to);
+        }
+    }
+
+    /// Sets bytes of a process's memory, from an offset on, to one value, and changes nothing else.
+    pub fn fill(&mut self, p: ObjNo, at: u16, length: u16, to: u8)
+        requires process { IsTrue (is_process self.old p) }
+        requires inside { at + length ≤ 1024 }
+        ensures { self.new ≡ with_process self.old p (filled at length to (bytes_of self.old p)) }
+    {
+        if let Some(bytes) = &mut self.processes[p.0 as usize] {
+            bytes.fill(at as usize, length as usize, to);
         }
     }
 }

@@ -1,3 +1,4 @@
+mod NameOrder
 mod Words
 pub mod FirstBytes
 pub mod Greatest

@@ -1,5 +1,5 @@
 //! A list that contracts see as such.
-ghost use Rattle.std.specs.Prelude.{◌≡◌, ◌+◌, ◌<◌, ◌↔◌, [], ◌∷◌, ◌++◌, length, vec_len, IsTrue, IfOk, OnOk, OnErr, MatchOption, slice_get, slice_set};
+ghost use Rattle.std.specs.Prelude.{◌≡◌, ◌+◌, ◌<◌, ◌≤◌, ◌↔◌, [], ◌∷◌, ◌++◌, length, take, drop, replicate, vec_len, IsTrue, IfOk, OnOk, OnErr, MatchOption, slice_get, slice_set};
 
 use std::alloc::{AllocError, AllocFailed, Global};
 use std::marker::Model;
@@ -111,5 +111,15 @@ impl<T: Copy> Items<T> {
             return None;
         }
         Some(self.items.remove(0))
+    }
+}
+
+impl Items<u8> {
+    /// Puts one byte at so many places from one on.
+    pub fn fill(&mut self, at: usize, count: usize, byte: u8)
+        requires { at + count ≤ length self.old }
+        ensures { self.new ≡ take at self.old ++ replicate count byte ++ drop (at + count) self.old }
+    {
+        self.items[at..at + count].fill(byte);
     }
 }

@@ -1,9 +1,12 @@
 //! Names of objects and categories of panics.
 ghost use Rattle.std.specs.Prelude.{◌≡◌, ◌≤◌, length, IsTrue};
 ghost use Rattle.std.specs.List.{list_all};
+ghost use Rattle.std.specs.Cmp.Lexicographic.{slice_cmp};
+ghost use Rattle.std.specs.Ordering.{nat_cmp};
 ghost use Rattle.std.specs.Str.{bytes_eq};
 ghost use Rattle.sym_base.specs.NameText.{name_byte, name_of};
 
+use std::cmp::Ordering;
 use std::marker::Model;
 
 /// The most bytes that a name has.
@@ -54,6 +57,13 @@ impl Name {
         ensures { result ≡ bytes_eq self.now other.now }
     {
         self.as_slice() == other.as_slice()
+    }
+
+    /// How two names stand in order, byte by byte. A name's bytes and the zeros behind them are one number of 128 bits.
+    pub fn order(&self, other: &Name) -> Ordering
+        ensures { result ≡ slice_cmp nat_cmp self.now other.now }
+    {
+        u128::from_be_bytes(self.bytes).cmp(&u128::from_be_bytes(other.bytes))
     }
 }
 

@@ -152,10 +152,7 @@ pub fn fill(procs: &mut Procs, process: ObjNo, at: u16, length: u16, byte: u8)
     requires { at + length ≤ 1024 }
     ensures { procs.new ≡ record procs.old { processes = with_memory procs.old.processes process (filled at length byte) } }
 {
-    if !procs.is_process(process) {
-        return;
-    }
-    for offset in at..at + length {
-        procs.set_byte(process, offset, byte);
+    if procs.is_process(process) {
+        procs.fill(process, at, length, byte);
     }
 }

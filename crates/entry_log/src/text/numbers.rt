@@ -66,7 +66,20 @@ fn put_four_digits(line: &mut Line, number: u32)
     put_pair(line, number % 100);
 }
 
-/// Adds a number, two digits at a time where it has at most six.
+/// Adds a number of at most 6 digits.
+fn put_six_digits(line: &mut Line, number: u32)
+    requires digits { number < 1000000 }
+    requires room { length line.old.items + length (decimal number) ≤ 512 }
+    ensures { line.new.items ≡ line.old.items ++ decimal number }
+{
+    if number < 10000 {
+        return put_four_digits(line, number);
+    }
+    put_four_digits(line, number / 100);
+    put_pair(line, number % 100);
+}
+
+/// Adds a number, two digits at a time if it has at most eight.
 fn put_digits(line: &mut Line, number: u32)
     requires { length line.old.items + length (decimal number) ≤ 512 }
     ensures { line.new.items ≡ line.old.items ++ decimal number }
@@ -75,6 +88,9 @@ fn put_digits(line: &mut Line, number: u32)
         put_four_digits(line, number);
     } else if number < 1000000 {
         put_four_digits(line, number / 100);
+        put_pair(line, number % 100);
+    } else if number < 100000000 {
+        put_six_digits(line, number / 100);
         put_pair(line, number % 100);
     } else {
         put_number(line, number);

@@ -24,3 +24,25 @@ returns-then-number-lt1000000 c =
       c.put_pair.ensures,
       c.put_four_digits-then-number-lt1000000.ensures,
     )
+
+pub put_six_digits-requires-clause-room : goal.put_six_digits-requires-clause-room
+put_six_digits-requires-clause-room c = omega (arith, c.requires, length_digits_and_pair c.args.number (omega arith) (omega arith))
+
+pub put_pair-requires-then-number-lt100000000-clause-room : goal.put_pair-requires-then-number-lt100000000-clause-room
+put_pair-requires-then-number-lt100000000-clause-room c =
+    omega (
+      arith,
+      c.requires,
+      length_digits_and_pair c.args.number (omega arith) (omega arith),
+      ap length c.put_six_digits.ensures,
+      length-append c.args.line.now.items (decimal (c.args.number / 100)),
+    )
+
+pub returns-then-number-lt100000000 : goal.returns-then-number-lt100000000
+returns-then-number-lt100000000 c =
+    simp (
+      digits_and_pair c.args.number (omega arith) (omega arith),
+      append_assoc,
+      c.put_pair-then-number-lt100000000.ensures,
+      c.put_six_digits.ensures,
+    )

@@ -26,16 +26,20 @@ returns-in-Ok c =
     let named : is_named (row_at c.args.rows.now c.args.number) ≡ true = ap is_named row ∙ ap not (sym c.is_session.ensures ∙ c.if-is_session.false) in
     let found = c.in-Ok.ensures in
     let items = rw c.self.view_is at c.remove_at.ensures.items in
-    rw items (listed_swept c.args.rows.now c.args.self.now c.args.number c.in-Ok.place c.requires.listed named found.0 (rw row found.1))
+    rw items (listed_swept c.args.rows.now c.args.self.now c.args.number c.in-Ok.place c.requires.listed named found.0 found.1)
 
-pub returns-in_default-place_of : goal.returns-in_default-place_of
-returns-in_default-place_of c =
+pub returns-in_default-place_listed : goal.returns-in_default-place_listed
+returns-in_default-place_listed c =
     let made = there_made c.args.rows.now c.args.number c.requires.there in
     let row : row_at c.args.rows.now c.args.number ≡ Some c.in-Some.row =
     sym (get_or_read c.args.rows.now c.args.number c.index-rows-number.result made c.index-rows-number.is None)
     ∙ c.in-Some.is in
     let named : is_named (row_at c.args.rows.now c.args.number) ≡ true = ap is_named row ∙ ap not (sym c.is_session.ensures ∙ c.if-is_session.false) in
-    let h = c.in_default-place_of.ensures in
-    let k = c.in_default-place_of.is in
-    absurd (gap_absent c.args.rows.now c.args.self.now c.args.number c.in_default-place_of.field-0 c.requires.listed
-    named (rw row c.in_default-place_of.ensures))
+    absurd (gap_absent c.args.rows.now c.args.self.now c.args.number c.in_default-place_listed.field-0 c.requires.listed
+    named c.in_default-place_listed.ensures)
+
+pub place_listed-requires-clause-row : goal.place_listed-requires-clause-row
+place_listed-requires-clause-row c =
+    let made = there_made c.args.rows.now c.args.number c.requires.there in
+    sym (get_or_read c.args.rows.now c.args.number c.index-rows-number.result made c.index-rows-number.is None)
+    ∙ c.in-Some.is
