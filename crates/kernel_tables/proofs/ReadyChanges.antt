@@ -70,7 +70,7 @@ pub stays_unready : (script : Script) (S : State) (rank : ObjNo → ℕ) (r : Re
 stays_unready script S rank r t unready qs h = rw unready h
 
 -- a number past those of threads is no thread's
-past_row : (script : Script) (S : State) (t : ObjNo) (row : Option ThreadRow) → AreKnown S → BOOT_OBJECTS ≤ t.0
+pub past_row : (script : Script) (S : State) (t : ObjNo) (row : Option ThreadRow) → AreKnown S → BOOT_OBJECTS ≤ t.0
     → thread_of S t ≡ row → is_ready script S t ≡ false
 past_row script S t None known past is = rowless_unready script S t is
 past_row script S t (Some row) known past is = let low = known t row is in absurd (omega arith)

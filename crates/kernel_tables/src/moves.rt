@@ -1,9 +1,9 @@
 //! Moves in the kernel's tables: each changes the rows, and the counts move with what it tells.
-ghost use Rattle.std.specs.Prelude.{◌≡◌};
+ghost use Rattle.std.specs.Prelude.{◌≡◌, ◌+◌, ◌≤◌, ◌++◌, length};
 ghost use Rattle.sym_base.specs.declared.number.ObjNo.{ObjNo};
-ghost use Rattle.readings.specs.Dying.{dead_by};
+ghost use Rattle.readings.specs.Dying.{dead_by, told_alive};
 ghost use Rattle.kernel_tables.specs.Choosing.{MayClose, closing_bit};
-ghost use Rattle.kernel_tables.specs.Moved.{CanMake, CanGain, CanAdvance, CanMove, HasPlaceFor, IsMoved, IsOther, chosen_state, making_bit};
+ghost use Rattle.kernel_tables.specs.Moved.{CanMake, CanGain, CanAdvance, CanMove, HasPlaceFor, IsMoved, IsRare, chosen_state, making_bit};
 ghost use Rattle.kernel_tables.specs.Noted.{AreKept, TiedTables};
 ghost use Rattle.kernel_tables.specs.StateOf.{state_of};
 
@@ -14,8 +14,9 @@ use crate::handle_moves::gain_slot;
 use crate::lock_moves::move_lock;
 use crate::server_moves::{move_message, move_server};
 use crate::tables::Tables;
-use entry_log::{Holder, Part};
+use entry_log::{Effects, Holder, Part};
 use machine::{Move, Waiting};
+use readings::tell;
 use ref_words::RefWords;
 use sym_base::{Kind, Name, ObjNo, ThreadNo};
 use table_moves::{
@@ -113,33 +114,24 @@ fn find<W: RefWords + Drop>(tables: &mut Tables<W>, thread: ThreadNo, object: Ob
     threads_find(&mut tables.procs, thread, object, place);
 }
 
-/// One move by which no reference is given up, in an action of a thread.
-fn make_other<W: RefWords + Drop>(tables: &mut Tables<W>, thread: ThreadNo, change: &Move)
+/// One move of a rare kind in an action of a thread, which is told from the state before it. Such moves stand apart from the others,
+/// so that these don't make places for what they carry.
+#[inline(never)]
+fn make_rare<W: RefWords + Drop>(
+    tables: &mut Tables<W>,
+    thread: ThreadNo,
+    change: &Move,
+    effects: &mut Effects,
+)
     requires can { CanMove thread change.now (state_of tables.old) }
-    requires place { HasPlaceFor (making_bit change.now) tables.old }
     requires kept { AreKept tables.old }
-    requires other { IsOther change.now }
-    ensures { IsMoved thread change.now tables.old tables.new }
+    requires few { length effects.old + length (told_alive change.now (state_of tables.old)) ≤ 4 }
+    requires rare { IsRare change.now }
+    ensures moved { IsMoved thread change.now tables.old tables.new }
+    ensures told { effects.new ≡ effects.old ++ told_alive change.now (state_of tables.old) }
 {
+    tell(effects, tables, change);
     match *change {
-        Move::Make(kind, name, holder) => make(tables, kind, name, holder),
-        Move::Gain(holder, object) => gain(tables, holder, object),
-        Move::Lose(_, _) | Move::Pay(_) => unreachable!(),
-        Move::Find(other, object) => find(tables, other, object),
-        Move::Open(other, object, part) => open_found(tables, other, object, part),
-        Move::Miss(other, _) => threads_miss(&mut tables.procs, other),
-        Move::GoOn(other, part) => threads_go_on(&mut tables.procs, other, part),
-        Move::Keep(other, number) => threads_keep(&mut tables.procs, other, number),
-        Move::Write(other, register, value) => {
-            threads_write(&mut tables.procs, other, register, value);
-        }
-        Move::WriteMessage(other, register, number) => {
-            threads_write_message(&mut tables.procs, other, register, number);
-        }
-        Move::PutDown(other) => put_down(tables, other),
-        Move::Advance(other) => advance(tables, other),
-        Move::Wait(other, what) => threads_wait(&mut tables.procs, other, what),
-        Move::Wake(other) => threads_wait(&mut tables.procs, other, Waiting::Nothing),
         Move::SetPriority(other, priority) => set_priority(tables, other, priority),
         Move::Nano(change) => move_nano(&mut tables.nano, change),
         Move::Deferred(change) => tables.deferred.change(change),
@@ -153,29 +145,70 @@ fn make_other<W: RefWords + Drop>(tables: &mut Tables<W>, thread: ThreadNo, chan
             fill(&mut tables.procs, process, at, length, byte);
         }
         Move::Copies(change) => move_copy(tables, change),
+        _ => unreachable!(),
     }
 }
 
-/// One move in an action of a thread. An object that died of it is answered.
+/// One move in an action of a thread, which is told from the state before it, but for a death, if it tells something. An object that
+/// died of it is answered.
 #[inline(always)]
 pub fn make_move<W: RefWords + Drop>(
     tables: &mut Tables<W>,
     thread: ThreadNo,
     change: &Move,
+    effects: &mut Effects,
 ) -> Option<ObjNo>
     requires can { CanMove thread change.now (state_of tables.old) }
     requires place { HasPlaceFor (making_bit change.now) tables.old }
     requires kept { AreKept tables.old }
     requires may { closing_bit change.now ≡ 1 → MayClose tables.old.objects.notes (state_of tables.old) }
+    requires few { length effects.old + length (told_alive change.now (state_of tables.old)) ≤ 4 }
     ensures moved { IsMoved thread change.now tables.old tables.new }
     ensures dead { result ≡ dead_by change.now (chosen_state tables.old tables.new) }
+    ensures told { effects.new ≡ effects.old ++ told_alive change.now (state_of tables.old) }
 {
     match *change {
-        Move::Lose(holder, object) => lose(tables, thread, holder, object),
-        Move::Pay(what) => pay(tables, thread, what),
-        _ => {
-            make_other(tables, thread, change);
-            None
+        Move::Make(kind, name, holder) => {
+            tell(effects, tables, change);
+            make(tables, kind, name, holder);
         }
+        Move::Gain(holder, object) => {
+            tell(effects, tables, change);
+            gain(tables, holder, object);
+        }
+        Move::Lose(holder, object) => {
+            tell(effects, tables, change);
+            return lose(tables, thread, holder, object);
+        }
+        Move::Pay(what) => {
+            tell(effects, tables, change);
+            return pay(tables, thread, what);
+        }
+        Move::Find(other, object) => {
+            tell(effects, tables, change);
+            find(tables, other, object);
+        }
+        Move::Open(other, object, part) => {
+            tell(effects, tables, change);
+            open_found(tables, other, object, part);
+        }
+        Move::Miss(other, _) => {
+            tell(effects, tables, change);
+            threads_miss(&mut tables.procs, other);
+        }
+        Move::GoOn(other, part) => threads_go_on(&mut tables.procs, other, part),
+        Move::Keep(other, number) => threads_keep(&mut tables.procs, other, number),
+        Move::Write(other, register, value) => {
+            threads_write(&mut tables.procs, other, register, value);
+        }
+        Move::WriteMessage(other, register, number) => {
+            threads_write_message(&mut tables.procs, other, register, number);
+        }
+        Move::PutDown(other) => put_down(tables, other),
+        Move::Advance(other) => advance(tables, other),
+        Move::Wait(other, what) => threads_wait(&mut tables.procs, other, what),
+        Move::Wake(other) => threads_wait(&mut tables.procs, other, Waiting::Nothing),
+        _ => make_rare(tables, thread, change, effects),
     }
+    None
 }

@@ -152,6 +152,7 @@ fn tell_message<R: Reads>(effects: &mut Effects, reads: &R, change: &MessageMove
 }
 
 /// Tells a move but for a death, from the state before it, behind the effects so far.
+#[inline(always)]
 pub fn tell<R: Reads>(effects: &mut Effects, reads: &R, change: &Move)
     requires readable { R.is_readable reads.now }
     requires few { length effects.old + length (told_alive change.now (R.state reads.now)) ≤ 4 }
