@@ -115,6 +115,13 @@ pub leaves_ready : (script : Script) (S : State) (rank : ObjNo → ℕ) (r : Rea
     → Follow rank (leave script S (t ∷ [])) r r
 leaves_ready script S rank r t ready qs h = rw ready h
 
+-- one that stands in no queue can't leave
+pub leaves_unqueued : (script : Script) (S : State) (rank : ObjNo → ℕ) (r : Ready) (t : ObjNo)
+    → (t.0 < BOOT_OBJECTS → list_any (holds t) r.queues ≡ true → ⊥) → Follow rank (leave script S (t ∷ [])) r r
+leaves_unqueued script S rank r t absent qs h =
+    let none = false_from_ne_true (is_listed qs t) (λ listed. absent (h.known t listed) (ready_queued rank qs r t h.queues ∙ listed)) in
+    elim (cases_Bool (is_ready script S t)) [ inl ready ↦ rw ready h | inr unready ↦ rw unready (leaves_absent rank qs r t none h) ]
+
 -- the thread of the highest queue is the chosen one
 chosen_by : (rank : ObjNo → ℕ) (qs : List ObjNo) (r : Ready) (t : ObjNo) → AreReady rank qs r
     → Some t ≡ first_of_highest r.queues → first_of_greatest rank qs ≡ Some t

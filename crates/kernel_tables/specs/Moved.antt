@@ -140,17 +140,15 @@ CanMove t (Copies m) S = FitsCopies m S
 CanMove t (Pay (Close h o)) S = IsReferred S o × HasPlaces 2 S t
 CanMove t (Pay (Sweep o)) S = CanSweep S o
 
--- a move of a rare kind: none of objects, of references, or of a thread's own steps
+-- a move of a rare kind
 abbrev pub IsRare : Move → Type 0
 IsRare (SetPriority u priority) = Unit {0}
 IsRare (Nano m) = Unit {0}
 IsRare (Deferred m) = Unit {0}
-IsRare (Requests m) = Unit {0}
 IsRare (Locks m) = Unit {0}
 IsRare (Logons m) = Unit {0}
 IsRare (Death m) = Unit {0}
 IsRare (Servers m) = Unit {0}
-IsRare (Messages m) = Unit {0}
 IsRare (Fill p at length byte) = Unit {0}
 IsRare (Copies m) = Unit {0}
 IsRare m = ⊥

@@ -1,6 +1,6 @@
 //! The queues of ready threads follow the moves of an action: who becomes ready comes, and who has nothing left to
 //! do leaves at the end.
-ghost use Rattle.std.specs.Prelude.{◌≡◌, ℕ, ◌<◌, true, List, [], ◌∷◌};
+ghost use Rattle.std.specs.Prelude.{◌≡◌, ℕ, ◌<◌, true, false, List, [], ◌∷◌};
 ghost use Rattle.sym_base.specs.declared.limits.TheConstants.Limits.{BOOT_OBJECTS};
 ghost use Rattle.sym_base.specs.declared.number.ObjNo.{ObjNo};
 ghost use Rattle.machine.specs.Arrivals.{arrive, one_of, taken_out, threads_of, unlisted};
@@ -72,7 +72,8 @@ pub fn arrive_touched<W: RefWords + Drop>(
 /// Whether a thread stands in a queue.
 pub fn is_queued(ready: &ReadyList, thread: ThreadNo) -> bool
     requires { ready.now.threads ≡ BOOT_OBJECTS }
-    ensures { result ≡ true → IsReady ready.now thread }
+    ensures there { result ≡ true → IsReady ready.now thread }
+    ensures absent { result ≡ false → thread.0 < BOOT_OBJECTS → ¬ IsReady ready.now thread }
 {
     (thread.0 as usize) < Limits::BOOT_OBJECTS && ready.priority_of(thread).is_some()
 }
