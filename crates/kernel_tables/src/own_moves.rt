@@ -1,4 +1,4 @@
-//! Moves that touch nobody but the thread that acts, as most do: the queues of ready threads don't change by them.
+//! Moves that touch no thread but the one that acts, as most do: the queues of ready threads don't change by them.
 ghost use Rattle.std.specs.Prelude.{◌≡◌, true};
 ghost use Rattle.kernel_tables.specs.OwnMoves.{AreOwn, IsOwn};
 
