@@ -1,4 +1,4 @@
--- Moves that touch nobody but the thread that acts.
+-- Moves that touch no thread but the one that acts.
 use Rattle.std.specs.Prelude.{◌≡◌, ◌==◌, ◌<◌, ◌||◌, nat_le, Bool, true, List, [], ◌∷◌}
 use Rattle.std.specs.List.{list_all}
 use Rattle.sym_base.specs.declared.limits.TheConstants.Limits.{BOOT_OBJECTS}
