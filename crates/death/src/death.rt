@@ -36,7 +36,7 @@ impl<'a, W: RefWords + Drop> Death<'a, W> {
     {
         let core = &mut *self.core;
         decide_doom(&mut core.decision, t, exit);
-        core.make(script, t, effects);
+        let _ = core.make(script, t, effects);
     }
 
     /// One action of an able, doomed thread: the oldest of what it owes is paid, else the first of what it has is given up.
@@ -55,7 +55,7 @@ impl<'a, W: RefWords + Drop> Death<'a, W> {
         let core = &mut *self.core;
         match decide_reaped(&mut core.decision, script, &core.tables, t) {
             Reaped::Step => {
-                core.make(script, t, effects);
+                let _ = core.make(script, t, effects);
                 Reaped::Step
             }
             Reaped::NothingLeft => Reaped::NothingLeft,
@@ -74,6 +74,6 @@ impl<'a, W: RefWords + Drop> Death<'a, W> {
     {
         let core = &mut *self.core;
         bury(&mut core.decision, script, &core.tables, dfc);
-        core.make(script, t, effects);
+        let _ = core.make(script, t, effects);
     }
 }

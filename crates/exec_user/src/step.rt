@@ -1,8 +1,9 @@
 //! A step: it is decided of the tables as they stand, and its moves are made in them.
-ghost use Rattle.std.specs.Prelude.{◌≡◌, []};
+ghost use Rattle.std.specs.Prelude.{◌≡◌, true, []};
 ghost use Rattle.machine.specs.Rows.{thread_of};
 ghost use Rattle.kernel_tables.specs.Choosing.{MayChoose};
 ghost use Rattle.kernel_tables.specs.CoreView.{RunsScript};
+ghost use Rattle.kernel_tables.specs.OwnMoves.{AreOwn};
 ghost use Rattle.kernel_tables.specs.Performed.{IsMade};
 ghost use Rattle.exec_user.specs.Phases.{next_of, phase_at};
 ghost use Rattle.exec_user.specs.Stepping.{IsAtStep, step_at};
@@ -42,18 +43,25 @@ pub struct ExecUser<'a, W: RefWords> {
 
 impl<'a, W: RefWords + Drop> ExecUser<'a, W> {
     /// One step of the instruction that an able thread is at, as `step` makes it, in whatever phase it is. Its effects come
-    /// into an empty list of the caller's.
-    pub fn tell_step(&mut self, script: &Script, t: ThreadNo, instr: &Instr, effects: &mut Effects)
+    /// into an empty list of the caller's. True only if its moves touched no other thread.
+    pub fn tell_step(
+        &mut self,
+        script: &Script,
+        t: ThreadNo,
+        instr: &Instr,
+        effects: &mut Effects,
+    ) -> bool
         requires runs { RunsScript script.now self.old.core.now }
         requires may { MayChoose t self.old.core.now.notes self.old.core.now.state }
         requires at { IsAtStep script.now self.old.core.now.state t instr.now }
         requires empty { effects.old ≡ [] }
         ensures same_core { self.new.core.ghost_name ≡ self.old.core.ghost_name }
         ensures made { IsMade script.now t (step_at script.now self.old.core.now.state t instr.now) self.old.core.now self.new.core.now effects.new }
+        ensures own { result ≡ true → AreOwn t (step_at script.now self.old.core.now.state t instr.now).moves }
     {
         let core = &mut *self.core;
         decide_step(&mut core.decision, script, &core.tables, t, instr);
-        core.make(script, t, effects);
+        core.make(script, t, effects)
     }
 
     /// One step of the instruction that an able thread is at, in the phase that it is in. All its moves are made, and
@@ -70,7 +78,7 @@ impl<'a, W: RefWords + Drop> ExecUser<'a, W> {
     {
         prove_eq!(phase, phase_at(self.core, t));
         let mut effects = Effects::new();
-        self.tell_step(script, t, instr, &mut effects);
+        let _ = self.tell_step(script, t, instr, &mut effects);
         let core = &*self.core;
         let answer = core.decision.answer;
         let moves = core.decision.moves.as_slice();

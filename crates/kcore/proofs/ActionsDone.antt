@@ -25,6 +25,7 @@ use Rattle.table_moves.specs.Notes.{Notes, notes_of}
 use Rattle.kernel_tables.specs.Choosing.{MayChoose}
 use Rattle.kernel_tables.specs.CoreView.{CoreView}
 use Rattle.kernel_tables.specs.Moved.{MovesGo, MovesRun}
+use Rattle.kernel_tables.specs.OwnMoves.{AreOwn}
 use Rattle.kernel_tables.specs.Performed.{IsMade, IsPerformed}
 use Rattle.kcore.specs.Done.{Acts, CarriesOut, Does, WasMade}
 use Rattle.kernel_tables.specs.ReadyQueues.{AreReady, Follow, leave_along}
@@ -80,6 +81,13 @@ pub made-in : {W : Type 0} (script : Script) (t : ObjNo) (d : Decision) (old len
     → IsMade script t d old lent effects → lent ≡ new → WasMade script t d old new effects
 made-in {W} script t d old lent new effects made same =
     was-made script t d old new effects (subst (λ (v : CoreView W). IsMade script t d old v effects) same made)
+
+-- so are moves known there for the thread's own
+pub own-in : {W : Type 0} (t : ObjNo) (d : Decision) (lent new : CoreView W) (own : Bool) → (own ≡ true → AreOwn t d.moves)
+    → lent.decision ≡ d → lent ≡ new → own ≡ true → AreOwn t new.decision.moves
+own-in {W} t d lent new own known decided same is =
+    subst (λ (v : CoreView W). AreOwn t v.decision.moves) same
+    (subst (λ (x : Decision). AreOwn t x.moves) (sym decided) (known is))
 
 -- what was kept in a core that was lent is kept in the one that lent it
 pub kept-in : (last new lent old : Notes) → last ≡ new → lent ≡ old → lent ≡ new → last ≡ old

@@ -43,8 +43,8 @@ fn step<W: RefWords + Drop>(
     ensures notes { core.new.notes ≡ core.old.notes }
 {
     let mut user = ExecUser { core };
-    user.tell_step(script, thread, instr, &mut entry.effects);
-    finish(script, core, thread, entry);
+    let own = user.tell_step(script, thread, instr, &mut entry.effects);
+    finish(script, core, thread, own, entry);
 }
 
 /// The next action of an able thread, decided in the place of the decision before it.

@@ -121,7 +121,7 @@ fn miss_back<W: RefWords + Drop>(
     ensures fewer { length core.new.notes.out + 1 ≡ length core.old.notes.out }
 {
     core.drop_note(note);
-    core.make(script, thread, effects);
+    let _ = core.make(script, thread, effects);
 }
 
 /// The return that was decided is made, and the note is no longer out.
@@ -172,5 +172,5 @@ pub fn come_back<W: RefWords + Drop>(
 {
     decide_back(script, core, thread);
     make_back(script, core, thread, note, &mut entry.effects);
-    finish(script, core, thread, entry);
+    finish(script, core, thread, false, entry);
 }

@@ -39,7 +39,7 @@ fn run_op<W: RefWords + Drop>(
     ensures may { MayChoose thread core.new.notes core.new.state }
 {
     op_moves(&mut core.decision.moves, script, &core.tables, op);
-    core.perform(script, thread, effects);
+    let _ = core.perform(script, thread, effects);
 }
 
 /// Operations, one after the other.
@@ -84,7 +84,7 @@ fn leave_own_queue<W: RefWords + Drop>(
     ensures may { MayChoose thread core.new.notes core.new.state }
 {
     leave_queue(&mut core.decision.moves, &core.tables, body);
-    core.perform(script, thread, effects);
+    let _ = core.perform(script, thread, effects);
 }
 
 /// A body, run in an action of a thread. Each operation is decided in the place of the moves before it.

@@ -35,7 +35,7 @@ pub fn end<W: RefWords + Drop>(
     let exit = plain_exit(ExitKind::Kill, 0);
     let mut death = Death { core };
     death.doom(script, thread, exit, &mut entry.effects);
-    finish(script, core, thread, entry);
+    finish(script, core, thread, false, entry);
 }
 
 /// A doomed thread pays or gives up one thing, or is cleaned, where nothing is left.
@@ -57,7 +57,7 @@ pub fn reap<W: RefWords + Drop>(
     let mut death = Death { core };
     match death.reap_one(script, thread, &mut entry.effects) {
         Reaped::NothingLeft => carry_out(script, core, thread, entry),
-        Reaped::Step => finish(script, core, thread, entry),
+        Reaped::Step => finish(script, core, thread, false, entry),
     }
 }
 
@@ -79,5 +79,5 @@ pub fn bury<W: RefWords + Drop>(
 {
     let mut death = Death { core };
     death.bury(script, thread, dfc, &mut entry.effects);
-    finish(script, core, thread, entry);
+    finish(script, core, thread, false, entry);
 }
