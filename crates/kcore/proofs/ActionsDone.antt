@@ -83,11 +83,8 @@ made-in {W} script t d old lent new effects made same =
     was-made script t d old new effects (subst (λ (v : CoreView W). IsMade script t d old v effects) same made)
 
 -- so are moves known there for the thread's own
-pub own-in : {W : Type 0} (t : ObjNo) (d : Decision) (lent new : CoreView W) (own : Bool) → (own ≡ true → AreOwn t d.moves)
-    → lent.decision ≡ d → lent ≡ new → own ≡ true → AreOwn t new.decision.moves
-own-in {W} t d lent new own known decided same is =
-    subst (λ (v : CoreView W). AreOwn t v.decision.moves) same
-    (subst (λ (x : Decision). AreOwn t x.moves) (sym decided) (known is))
+pub own-in : (t : ObjNo) (ms lent new : List Move) (own : Bool) → (own ≡ true → AreOwn t ms) → lent ≡ ms → lent ≡ new → own ≡ true → AreOwn t new
+own-in t ms lent new own known decided same is = subst (AreOwn t) same (subst (AreOwn t) (sym decided) (known is))
 
 -- what was kept in a core that was lent is kept in the one that lent it
 pub kept-in : (last new lent old : Notes) → last ≡ new → lent ≡ old → lent ≡ new → last ≡ old
