@@ -5,9 +5,11 @@ use Rattle.kcore.proofs.act.step.Goals as goal
 
 -- what was told of its moves holds of them where they stand
 pub finish-requires : goal.finish-requires
-finish-requires g c =
-    own-in c.args.thread (step_at c.args.script.now c.args.core.now.state c.args.thread c.args.instr.now) _ _
-    c.tell_step-own.result c.tell_step-own.ensures.own c.tell_step-own.ensures.made.decided (search rules)
+finish-requires g c = record {
+  own =
+      own-in c.args.thread (step_at c.args.script.now c.args.core.now.state c.args.thread c.args.instr.now) _ _
+      c.tell_step-own.result c.tell_step-own.ensures.own c.tell_step-own.ensures.made.decided (search rules);
+}
 
 -- the step was made in the core that was lent
 pub returns-clause-does : goal.returns-clause-does

@@ -3,7 +3,7 @@ use Rattle.kcore.proofs.ActionsDone.{was-made}
 use Rattle.kcore.proofs.plans.carry_out.Goals as goal
 
 pub finish-requires : goal.finish-requires
-finish-requires g c = rw c.make-own.ensures.made.decided c.make-own.ensures.own
+finish-requires g c = record { own = rw c.make-own.ensures.made.decided c.make-own.ensures.own; }
 
 pub returns-clause-does : goal.returns-clause-does
 returns-clause-does g c =
