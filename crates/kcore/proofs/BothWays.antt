@@ -172,7 +172,7 @@ begins-out false script (e ∷ es) old mid h suits state ready = absurd (suits r
 pub boot-kernel : {W : Type 0} (script : Script) (core : CoreView W) (room capacity : ℕ) (identity : List ℕ) (places : ℕ)
     → places ≡ places_for script.version room → IsWellFormed script → room ≤ 131072 → room ≤ capacity → core.state ≡ boot script
     → AreReady (priority_of (boot script)) (ready_at_boot script) core.ready → core.notes ≡ no_notes identity places
-    → IsKernel script [] core 0 room capacity
+    → IsKernel script [] core 0 false room capacity
 boot-kernel script core room capacity identity places enough valid few fits state queues notes =
     let alone : core.state.mode.shared ≡ false = ap (λ (S : State). S.mode.shared) state in
     record {
@@ -188,5 +188,6 @@ boot-kernel script core room capacity identity places enough valid few fits stat
         notes = record { made = ap (λ (n : Notes). n.made) notes; out = ap (λ (n : Notes). n.out) notes };
       });
       counted = sym (ap (λ (n : Notes). length n.out) notes);
+      rests = λ idle. absurd (cc);
       fresh = λ _. alone;
     }

@@ -1,12 +1,14 @@
 -- A kernel goes on: after an actor's action its core stands for one entry more.
-use Rattle.std.proofs.Common.{◌≡◌, ◌+◌, List, [], length, Bool, true, false, refl, sym, ap, subst, ◌∙◌}
+use Rattle.std.proofs.Common.{◌≡◌, ◌+◌, List, [], ◌∷◌, ◌++◌, length, Bool, true, false, None, refl, sym, ap, subst, ◌∙◌}
 use Rattle.std.specs.Prelude.{◌&&◌}
 use Rattle.sym_base.specs.declared.number.ObjNo.{ObjNo}
 use Rattle.script_types.specs.declared.script.Script.{Script}
 use Rattle.script_types.specs.Source.{IsWellFormed}
 use Rattle.script_types.proofs.ShapeLaws.{formed_is_shaped}
 use Rattle.entry_log.specs.declared.entry.Actor.{Actor}
+use Rattle.entry_log.specs.declared.entry.Actor.TheVariants.{Idle}
 use Rattle.entry_log.specs.declared.entry.Entry.{Entry}
+use Rattle.entry_log.specs.declared.step.Step.TheVariants.{Wait}
 use Rattle.machine.specs.declared.mode.Mode.{Mode}
 use Rattle.machine.specs.declared.state.State.{State}
 use Rattle.machine.specs.Arrived.{arrived_in, arrived_next}
@@ -23,6 +25,7 @@ use Rattle.kernel_tables.specs.Choosing.{sharing}
 use Rattle.kernel_tables.specs.CoreView.{CoreView, RunsScript}
 use Rattle.kernel_tables.specs.ReadyQueues.{AreReady}
 use Rattle.kcore.specs.Acting.{Went}
+use Rattle.kcore.proofs.ActionsDone.{idle_does}
 
 -- a core that stands for the state after a history, in which nothing is chosen yet
 pub record Begins {W : Type 0} (shared : Bool) (script : Script) (history : List Entry) (core : CoreView W) : Type 0 where
@@ -151,4 +154,15 @@ begins-fresh shared script old mid valid h state ready = record {
   legal = tt;
   state = state ∙ ap sharing h.state;
   queues = queues-shared old mid (arrived_in shared script []) state ready h.queues;
+}
+
+-- nobody acts: an entry of nobody comes behind the history, and the core stays
+pub rested : {W : Type 0} (script : Script) (history new : List Entry) (core : CoreView W)
+    → new ≡ history ++ entry_of (length history + 1) Idle (record { step = Wait; effects = []; answer = None }) ∷ []
+    → Went script history new core core Idle
+rested script history new core longer = record {
+  entry = entry_of (length history + 1) Idle (record { step = Wait; effects = []; answer = None });
+  longer = longer;
+  told = refl;
+  does = idle_does script core (record { step = Wait; effects = []; answer = None }) refl;
 }

@@ -5,7 +5,7 @@ use Rattle.sym_base.specs.declared.limits.TheConstants.Limits.{OBJECTS}
 use Rattle.sym_base.specs.declared.number.ObjNo.{ObjNo}
 use Rattle.script_types.specs.declared.script.Script.{Script}
 use Rattle.entry_log.specs.declared.entry.Actor.{Actor}
-use Rattle.entry_log.specs.declared.entry.Actor.TheVariants.{Thread}
+use Rattle.entry_log.specs.declared.entry.Actor.TheVariants.{Thread, Idle}
 use Rattle.entry_log.specs.declared.entry.Entry.{Entry}
 use Rattle.ready_list.specs.Ready.{Ready}
 use Rattle.ref_words.specs.declared.slip.Slip.{Slip}
@@ -14,7 +14,7 @@ use Rattle.machine.specs.declared.state.State.{State}
 use Rattle.machine.specs.Arrived.{arrived_in}
 use Rattle.machine.specs.Boot.{boot_in, uses_again}
 use Rattle.machine.specs.Choice.{priority_of}
-use Rattle.machine.specs.History.{after, after_in, choosing, entry_by, transition, CanAct, IsShared}
+use Rattle.machine.specs.History.{after, after_in, choosing, entry_by, next, transition, CanAct, IsIdle, IsShared}
 use Rattle.machine.specs.Out.{is_out}
 use Rattle.machine.specs.SharedRun.{is_return}
 use Rattle.machine_laws.proofs.Reached.Makings.{made-after}
@@ -32,7 +32,7 @@ use Rattle.kcore.specs.KernelView.{IsKernel, Stands, places_for}
 use Rattle.kcore.specs.OneMore.{IsFinder, OneMore, ReturnsBy, SendsOut}
 use Rattle.kcore.specs.Outgoing.{AreNone, AreNotes}
 use Rattle.kcore.specs.Sending.{MaySend, notes_after, slip_after}
-use Rattle.kcore.proofs.Alone.{alone_after, no_choice}
+use Rattle.kcore.proofs.Alone.{after_longer, alone_after, no_choice}
 use Rattle.kcore.proofs.BothWays.{alone-of, begins-out, follows-of, mode-push, never-empty, notes-out}
 use Rattle.kcore.proofs.Goes.{Begins, Follows, begins-alone, follows, tale}
 use Rattle.kcore.proofs.NotesOut.{back, notes-taken, return-finds-none}
@@ -48,8 +48,8 @@ place-left shared script history notes room valid short places again =
     omega arith
 
 -- where one caller calls the kernel alone
-module _ {W : Type 0} (script : Script) (history : List Entry) (old : CoreView W) (out room capacity : ℕ)
-    (k : IsKernel script history old out room capacity) (suits : Suits false (mode_of old.state.mode.shared history)) where
+module _ {W : Type 0} (script : Script) (history : List Entry) (old : CoreView W) (out room capacity : ℕ) {idle : Bool}
+    (k : IsKernel script history old out idle room capacity) (suits : Suits false (mode_of old.state.mode.shared history)) where
   pub is-alone : old.state.mode.shared ≡ false
   is-alone = alone-of old.state.mode.shared history k.fresh suits
 
@@ -77,8 +77,18 @@ module _ {W : Type 0} (script : Script) (history : List Entry) (old : CoreView W
         (tale false script history old alone-begins new core actor went
         ∙ ap (λ (S : State). entry_by script S (length history + 1) actor) (no_choice script history went.entry))
 
-    pub alone-kernel : (more : ℕ) → capacity ≤ more → core.notes ≡ old.notes → length history < room → IsKernel script new core out room more
-    alone-kernel more larger notes left = record {
+    -- where nobody acts nobody could, nor can afterwards
+    alone-idle : actor ≡ Idle → IsIdle script core.state
+    alone-idle rests =
+        let acts : went.entry.actor ≡ Idle = ap (λ (e : Entry). e.actor) went.told ∙ rests in
+        let same : core.state ≡ after script history =
+        alone-follows.state ∙ ap (after script) went.longer ∙ after_longer script history went.entry
+        ∙ ap (next script (after script history)) acts in
+        subst (IsIdle script) (sym same) (subst (CanAct script (after script history)) rests can)
+
+    pub alone-kernel : (rests : Bool) → (rests ≡ true → actor ≡ Idle) → (more : ℕ) → capacity ≤ more → core.notes ≡ old.notes → length history < room
+        → IsKernel script new core out rests room more
+    alone-kernel rests nobody more larger notes left = record {
       fits = let fits = k.fits in omega arith;
       few = k.few;
       places = ap (λ (n : Notes). n.places) notes ∙ k.places;
@@ -93,12 +103,13 @@ module _ {W : Type 0} (script : Script) (history : List Entry) (old : CoreView W
             notes = subst AreNone (sym notes) alone-stands.notes;
           });
       counted = k.counted ∙ ap (λ (n : Notes). length n.out) (sym notes);
+      rests = λ is. alone-idle (nobody is);
       fresh = λ _. alone-shared;
     }
 
 -- where callers share it, and it is told so
-module _ {W : Type 0} (script : Script) (history : List Entry) (old mid : CoreView W) (out room capacity : ℕ)
-    (k : IsKernel script history old out room capacity) (suits : Suits true (mode_of old.state.mode.shared history))
+module _ {W : Type 0} (script : Script) (history : List Entry) (old mid : CoreView W) (out room capacity : ℕ) {idle : Bool}
+    (k : IsKernel script history old out idle room capacity) (suits : Suits true (mode_of old.state.mode.shared history))
     (state : mid.state ≡ sharing old.state) (ready : mid.ready ≡ old.ready) (notes : mid.notes ≡ old.notes) where
   abbrev S : State
   S = after_in true script history
@@ -139,7 +150,7 @@ module _ {W : Type 0} (script : Script) (history : List Entry) (old mid : CoreVi
     -- it stands for the longer history, with these notes
     pub out-kernel : (last : CoreView W) (n larger : ℕ) → last.state ≡ core.state → last.ready ≡ core.ready
         → AreNotes new (after_in true script new) last.notes → n ≡ length last.notes.out → last.notes.places ≡ mid.notes.places → capacity ≤ larger
-        → length history < room → IsKernel script new last n room larger
+        → length history < room → IsKernel script new last n false room larger
     out-kernel last n larger same_state same_ready are counted same_places more_room left =
         let shared : last.state.mode.shared ≡ true = ap (λ (T : State). T.mode.shared) same_state ∙ out-shared in
         let at : last.state ≡ after_in true script new = same_state ∙ out-follows.state in
@@ -159,6 +170,7 @@ module _ {W : Type 0} (script : Script) (history : List Entry) (old mid : CoreVi
             notes = subst (λ (T : State). AreNotes new T last.notes) (sym at) are;
           });
           counted = counted;
+          rests = λ is. absurd (cc);
           fresh = λ none. absurd (never-empty history went.entry (sym went.longer ∙ none));
         }
 

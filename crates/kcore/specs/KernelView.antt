@@ -1,5 +1,5 @@
 -- What a contract sees of a kernel.
-use Rattle.std.specs.Prelude.{◌≡◌, ℕ, ◌+◌, ◌≤◌, if◌then◌else◌, Bool, false, List, [], length}
+use Rattle.std.specs.Prelude.{◌≡◌, ℕ, ◌+◌, ◌≤◌, if◌then◌else◌, Bool, true, false, List, [], length}
 use Rattle.sym_base.specs.declared.limits.TheConstants.Limits.{OBJECTS, SHARED_HISTORY}
 use Rattle.script_types.specs.declared.script.Script.{Script}
 use Rattle.script_types.specs.Source.{IsWellFormed}
@@ -7,7 +7,7 @@ use Rattle.entry_log.specs.declared.entry.Entry.{Entry}
 use Rattle.machine.specs.Arrived.{arrived_in}
 use Rattle.machine.specs.Boot.{uses_again}
 use Rattle.machine.specs.Choice.{priority_of}
-use Rattle.machine.specs.History.{after_in, IsLegalIn}
+use Rattle.machine.specs.History.{after_in, IsIdle, IsLegalIn}
 use Rattle.table_moves.specs.Notes.{Notes}
 use Rattle.kernel_tables.specs.CoreView.{CoreView}
 use Rattle.kernel_tables.specs.ReadyQueues.{AreReady}
@@ -37,13 +37,14 @@ pub record Stands {W : Type 0} (shared : Bool) (script : Script) (history : List
 abbrev pub places_for : ℕ → ℕ → ℕ
 places_for version room = if uses_again version then room + 128 else OBJECTS
 
--- a kernel stands for its history, and there is room for its entries, and a place for what each makes; it knows how many are out; and nobody shares it
--- that has no entries yet
-pub record IsKernel {W : Type 0} (script : Script) (history : List Entry) (core : CoreView W) (out room capacity : ℕ) : Type 0 where
+-- a kernel stands for its history, and there is room for its entries, and a place for what each makes; it knows how many are out; it is marked as idle
+-- only if nobody could act; and nobody shares it that has no entries yet
+pub record IsKernel {W : Type 0} (script : Script) (history : List Entry) (core : CoreView W) (out : ℕ) (idle : Bool) (room capacity : ℕ) : Type 0 where
   pub fits : room ≤ capacity
   pub few : room ≤ SHARED_HISTORY
   pub places : core.notes.places ≡ places_for script.version room
   pub short : length history ≤ room
   pub stands : Stands core.state.mode.shared script history core
   pub counted : out ≡ length core.notes.out
+  pub rests : idle ≡ true → IsIdle script core.state
   pub fresh : history ≡ [] → core.state.mode.shared ≡ false

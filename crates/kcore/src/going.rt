@@ -1,5 +1,5 @@
 //! The history goes on: an actor acts, and the last entry tells what it did.
-ghost use Rattle.std.specs.Prelude.{◌≡◌, ◌+◌, ◌<◌, ◌≤◌, List, [], length, None, false, IfSome, option_map, vec_capacity};
+ghost use Rattle.std.specs.Prelude.{◌≡◌, ◌≢◌, ◌+◌, ◌<◌, ◌≤◌, ◌++◌, ◌∷◌, List, [], length, None, true, false, IfSome, option_map, vec_capacity};
 ghost use Rattle.sym_base.specs.declared.limits.TheConstants.Limits.{SHARED_HISTORY};
 ghost use Rattle.sym_base.specs.declared.number.ObjNo.{ObjNo};
 ghost use Rattle.entry_log.specs.declared.entry.Actor.TheVariants.{Thread};
@@ -55,6 +55,27 @@ fn new_entry(place: u32, actor: Actor) -> Entry
         effects: Effects::new(),
         answer: None,
     }
+}
+
+/// Whether an actor is nobody.
+#[inline(always)]
+pub fn is_nobody(actor: Actor) -> bool
+    ensures nobody { result ≡ true → actor ≡ Actor.Idle }
+    ensures somebody { result ≡ false → actor ≢ Actor.Idle }
+{
+    matches!(actor, Actor::Idle)
+}
+
+/// Nobody acts, told by one entry more.
+#[inline(always)]
+pub fn rest(history: &mut Vec<Entry>)
+    requires few { length history.old.items < SHARED_HISTORY }
+    requires room { length history.old.items < vec_capacity history.old }
+    ensures longer { history.new.items ≡ history.old.items ++ entry_of (length history.old.items + 1) Actor.Idle (record { step = Step.Wait; effects = []; answer = None }) ∷ [] }
+    ensures capacity { vec_capacity history.old ≤ vec_capacity history.new }
+{
+    let place = history.as_slice().len() as u32 + 1;
+    history.push_reserved(new_entry(place, Actor::Idle));
 }
 
 /// One atomic action of an actor that may act and isn't out, told by one entry more.

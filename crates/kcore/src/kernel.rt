@@ -2,6 +2,7 @@
 ghost use Rattle.std.specs.Prelude.{◌≡◌, ◌+◌, ◌<◌, ◌≤◌, ◌++◌, [], ◌∷◌, List, length, Bool, true, false, Some, None, option_map, IsTrue, IfOk, IfSome};
 ghost use Rattle.sym_base.specs.declared.limits.TheConstants.Limits.{SHARED_HISTORY};
 ghost use Rattle.ref_words.specs.Words.{NoneCreated};
+ghost use Rattle.script_types.specs.declared.script.Slot.TheVariants as Slot;
 ghost use Rattle.script_types.specs.Source.{IsWellFormed};
 ghost use Rattle.machine.specs.Slots.{declares_interrupt, IsDeclared};
 ghost use Rattle.machine.specs.FinalRows.{rows_from, IsNextRow};
@@ -9,7 +10,7 @@ ghost use Rattle.entry_log.specs.declared.entry.Actor.TheVariants as Actor;
 ghost use Rattle.machine.specs.Arrived.{arrived, arrived_in};
 ghost use Rattle.machine.specs.Out.{is_out};
 ghost use Rattle.machine.specs.Task.{is_able};
-ghost use Rattle.machine.specs.History.{after, after_in, entry_by, CanAct, IsLegal, IsLegalIn, IsShared};
+ghost use Rattle.machine.specs.History.{after, after_in, entry_by, CanAct, IsIdle, IsLegal, IsLegalIn, IsShared};
 ghost use Rattle.machine.specs.Run.{slot_actor};
 ghost use Rattle.machine_safe.specs.FindsAndReturns.{away, is_out_actor};
 ghost use Rattle.machine_safe.specs.ReadyHolders.{AreHoldersReady, AreHoldersReadyIn};
@@ -25,7 +26,7 @@ ghost use Rattle.kcore.specs.Sending.{notes_after};
 
 use crate::boot;
 use crate::final_rows::next_row;
-use crate::going::{found_in, go, go_back, send, slot_actor};
+use crate::going::{found_in, go, go_back, is_nobody, rest, send, slot_actor};
 use entry_log::{Actor, Entry, FinalRow};
 use kernel_tables::Core;
 use next_actions::declares_interrupt;
@@ -49,6 +50,8 @@ pub struct Kernel<W: RefWords> {
     history: Vec<Entry>,
     /// How many notes are out.
     out: u32,
+    /// Nobody acted last and nobody could now, so that a slot need not ask whom it lets act. It may be unset where that is so.
+    idle: bool,
     room: u32,
 }
 
@@ -61,7 +64,7 @@ impl<W: RefWords> Model for Kernel<W> {
 
     ghost view = { λ k. record { script = k.script; history = k.history.items; room = k.room; mode = mode_of k.core.state.mode.shared k.history.items; words = k.core.words; notes = k.core.notes } };
 
-    ghost invariant = { λ k. IsKernel k.script k.history.items k.core k.out k.room (vec_capacity k.history) };
+    ghost invariant = { λ k. IsKernel k.script k.history.items k.core k.out k.idle k.room (vec_capacity k.history) };
 }
 
 impl<W: RefWords + Drop> Kernel<W> {
@@ -87,6 +90,7 @@ impl<W: RefWords + Drop> Kernel<W> {
             core,
             history,
             out: 0,
+            idle: false,
             room,
         })
     }
@@ -104,7 +108,25 @@ impl<W: RefWords + Drop> Kernel<W> {
         ensures safe { IsSafe self.new.script self.new.history }
         ensures holders { AreHoldersReady self.new.script self.new.history }
     {
+        self.idle = is_nobody(actor);
         go(&self.script, &mut self.core, &mut self.history, actor);
+    }
+
+    /// Nobody acts, since nobody could, told by one entry more, where one caller calls the kernel alone.
+    #[inline(always)]
+    fn pause(&mut self)
+        requires mode { Suits false self.old.mode }
+        requires can { CanAct self.old.script (after self.old.script self.old.history) Actor.Idle }
+        requires room { length self.old.history < self.old.room }
+        ensures script { self.new.script ≡ self.old.script }
+        ensures room { self.new.room ≡ self.old.room }
+        ensures mode { self.new.mode ≡ Whole }
+        ensures entry { self.new.history ≡ self.old.history ++ entry_by self.old.script (after self.old.script self.old.history) (length self.old.history + 1) Actor.Idle ∷ [] }
+        ensures legal { IsLegal self.new.script self.new.history }
+        ensures safe { IsSafe self.new.script self.new.history }
+        ensures holders { AreHoldersReady self.new.script self.new.history }
+    {
+        rest(&mut self.history);
     }
 
     /// One atomic action of an actor that may act and isn't out, told by one entry more, where callers share the kernel. The note of
@@ -124,6 +146,7 @@ impl<W: RefWords + Drop> Kernel<W> {
         ensures safe { IsSafeIn true self.new.script self.new.history }
         ensures holders { AreHoldersReadyIn true self.new.script self.new.history }
     {
+        self.idle = false;
         self.core.share();
         let at = self.history.as_slice().len();
         go(&self.script, &mut self.core, &mut self.history, actor);
@@ -193,6 +216,7 @@ impl<W: RefWords + Drop> Kernel<W> {
         ensures holders { AreHoldersReadyIn true self.new.script self.new.history }
         ensures lighter { is_dying (after_in true self.old.script self.old.history) t ≡ true → weight_in (after_in true self.new.script self.new.history) t < weight_in (after_in true self.old.script self.old.history) t }
     {
+        self.idle = false;
         self.core.share();
         go_back(&self.script, &mut self.core, &mut self.history, t, note);
         self.out -= 1;
@@ -249,6 +273,18 @@ impl<W: RefWords + Drop> Kernel<W> {
 }
 
 impl Kernel<PlainWords> {
+    /// Whether the kernel is marked as idle, and a slot lets the chosen actor act: nobody.
+    #[inline(always)]
+    fn is_pause(&self, slot: Slot) -> bool
+        ensures go { result ≡ true → slot ≡ Slot.Go }
+        ensures idle { result ≡ true → Suits false self.now.mode → IsIdle self.now.script (after self.now.script self.now.history) }
+    {
+        match slot {
+            Slot::Go => self.idle,
+            Slot::Irq(_) | Slot::Tick => false,
+        }
+    }
+
     /// One atomic action of the actor that the slot lets act (of an interrupt, one that the script declares),
     /// told by one entry more.
     pub fn slot(&mut self, slot: Slot)
@@ -263,8 +299,12 @@ impl Kernel<PlainWords> {
         ensures safe { IsSafe self.new.script self.new.history }
         ensures holders { AreHoldersReady self.new.script self.new.history }
     {
-        let actor = slot_actor(&self.core, slot);
-        self.step(actor);
+        if self.is_pause(slot) {
+            self.pause();
+        } else {
+            let actor = slot_actor(&self.core, slot);
+            self.step(actor);
+        }
     }
 
     /// One atomic action of an able thread, told by one entry more, whoever the schedule would choose. One that is doomed

@@ -51,8 +51,8 @@ invariant_of-self g c =
     let k = c.self.inside in
     let suits = rw (← c.self.view_is) at c.requires.mode in
     alone-kernel k.script k.history.items k.core k.out k.room _ c.self.invariant suits c.go.new.history.items
-    c.go.new.core c.args.actor (rw (← c.self.view_is) at c.requires.can) c.go.ensures.went _ c.go.ensures.capacity
-    c.go.ensures.notes (rw (← c.self.view_is) at c.requires.room)
+    c.go.new.core c.args.actor (rw (← c.self.view_is) at c.requires.can) c.go.ensures.went _ c.is_nobody-self-inside.ensures.nobody _
+    c.go.ensures.capacity c.go.ensures.notes (rw (← c.self.view_is) at c.requires.room)
 
 pub returns-clause-mode : goal.returns-clause-mode
 returns-clause-mode g c =
