@@ -79,7 +79,7 @@ fn put_six_digits(line: &mut Line, number: u32)
     put_pair(line, number % 100);
 }
 
-/// Adds a number of at most 8 digits. It stays a call of its own, so that the small numbers before it stay short.
+/// Adds a number of at most 8 digits. Few numbers are that long, so it is not copied into its callers.
 #[inline(never)]
 fn put_eight_digits(line: &mut Line, number: u32)
     requires digits { number < 100000000 }
