@@ -70,7 +70,7 @@ pub stays_unready : (script : Script) (S : State) (rank : ObjNo → ℕ) (r : Re
 stays_unready script S rank r t unready qs h = rw unready h
 
 -- a number past those of threads is no thread's
-past_row : (script : Script) (S : State) (t : ObjNo) (row : Option ThreadRow) → AreKnown S → BOOT_OBJECTS ≤ t.0
+pub past_row : (script : Script) (S : State) (t : ObjNo) (row : Option ThreadRow) → AreKnown S → BOOT_OBJECTS ≤ t.0
     → thread_of S t ≡ row → is_ready script S t ≡ false
 past_row script S t None known past is = rowless_unready script S t is
 past_row script S t (Some row) known past is = let low = known t row is in absurd (omega arith)
@@ -114,6 +114,13 @@ leaves_unready script S rank r new t unready follow qs h = rw unready (follow qs
 pub leaves_ready : (script : Script) (S : State) (rank : ObjNo → ℕ) (r : Ready) (t : ObjNo) → is_ready script S t ≡ true
     → Follow rank (leave script S (t ∷ [])) r r
 leaves_ready script S rank r t ready qs h = rw ready h
+
+-- one that stands in no queue can't leave
+pub leaves_unqueued : (script : Script) (S : State) (rank : ObjNo → ℕ) (r : Ready) (t : ObjNo)
+    → (t.0 < BOOT_OBJECTS → list_any (holds t) r.queues ≡ true → ⊥) → Follow rank (leave script S (t ∷ [])) r r
+leaves_unqueued script S rank r t absent qs h =
+    let none = false_from_ne_true (is_listed qs t) (λ listed. absent (h.known t listed) (ready_queued rank qs r t h.queues ∙ listed)) in
+    elim (cases_Bool (is_ready script S t)) [ inl ready ↦ rw ready h | inr unready ↦ rw unready (leaves_absent rank qs r t none h) ]
 
 -- the thread of the highest queue is the chosen one
 chosen_by : (rank : ObjNo → ℕ) (qs : List ObjNo) (r : Ready) (t : ObjNo) → AreReady rank qs r

@@ -140,11 +140,18 @@ CanMove t (Copies m) S = FitsCopies m S
 CanMove t (Pay (Close h o)) S = IsReferred S o × HasPlaces 2 S t
 CanMove t (Pay (Sweep o)) S = CanSweep S o
 
--- a move by which no reference is given up, and nothing is paid
-abbrev pub IsOther : Move → Type 0
-IsOther (Lose h o) = ⊥
-IsOther (Pay what) = ⊥
-IsOther m = Unit {0}
+-- a move of a rare kind
+abbrev pub IsRare : Move → Type 0
+IsRare (SetPriority u priority) = Unit {0}
+IsRare (Nano m) = Unit {0}
+IsRare (Deferred m) = Unit {0}
+IsRare (Locks m) = Unit {0}
+IsRare (Logons m) = Unit {0}
+IsRare (Death m) = Unit {0}
+IsRare (Servers m) = Unit {0}
+IsRare (Fill p at length byte) = Unit {0}
+IsRare (Copies m) = Unit {0}
+IsRare m = ⊥
 
 -- the state in which a move was made: the one before it, with the choice that the move left
 abbrev pub chosen_state : {W N : Type 0} → Tables W N → Tables W N → State

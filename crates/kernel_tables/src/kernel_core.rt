@@ -1,5 +1,5 @@
 //! The core of the kernel: what its actions change.
-ghost use Rattle.std.specs.Prelude.{◌≡◌, ℕ, ◌+◌, ◌≤◌, Bool, [], List, length};
+ghost use Rattle.std.specs.Prelude.{◌≡◌, ℕ, ◌+◌, ◌≤◌, Bool, true, [], List, length};
 ghost use Rattle.sym_base.specs.declared.limits.TheConstants.Limits.{BOOT_OBJECTS};
 ghost use Rattle.sym_base.specs.declared.number.ObjNo.{ObjNo};
 ghost use Rattle.ready_list.specs.Arrival.{AreQueuesOf};
@@ -11,16 +11,18 @@ ghost use Rattle.machine.specs.Tick.{after_tick};
 ghost use Rattle.kernel_tables.specs.Choosing.{MayChoose, closing_bit, sharing};
 ghost use Rattle.kernel_tables.specs.Moved.{MovesGo, making_bit};
 ghost use Rattle.kernel_tables.specs.Noted.{AreKept};
+ghost use Rattle.kernel_tables.specs.OwnMoves.{AreOwn};
 ghost use Rattle.kernel_tables.specs.Performed.{ActionGoes, IsMade, IsPerformed};
 ghost use Rattle.kernel_tables.specs.ReadyQueues.{Follow, leave_along, pairs};
 ghost use Rattle.kernel_tables.specs.StateOf.{state_of};
 
 use crate::moves::make_move;
-use crate::ready::{chosen, follow_move, leave_along, turn};
+use crate::own_moves::are_own;
+use crate::ready::{chosen, follow_move, is_queued, leave_along, leave_unless_own, turn};
 use crate::tables::Tables;
 use entry_log::{Actor, Effects};
 use machine::{Decision, Mode, Move};
-use readings::{tell, tell_death};
+use readings::tell_death;
 use ready_list::ReadyList;
 use ref_words::RefWords;
 use script_types::Script;
@@ -66,8 +68,9 @@ impl<W: RefWords + Drop> Core<W> {
     }
 
     /// The moves that were decided are made in an action of a thread, one after the other. What they tell comes behind what was
-    /// told before, and whom they make ready comes. Whoever isn't ready any more stays in the queues.
-    pub fn perform(&mut self, script: &Script, thread: ThreadNo, effects: &mut Effects)
+    /// told before, and whom they make ready comes. Whoever isn't ready any more stays in the queues. It answers whether the moves are
+    /// all known for the thread's own: the queues don't change then.
+    pub fn perform(&mut self, script: &Script, thread: ThreadNo, effects: &mut Effects) -> bool
         requires go { (keep : Bool) → MovesGo script.now thread self.old.decision.moves (keeping keep self.old.state) }
         requires few { (keep : Bool) → length effects.old + length (tell thread self.old.decision.moves (keeping keep self.old.state)) ≤ 4 }
         requires once { total closing_bit self.old.decision.moves ≤ 1 }
@@ -76,25 +79,30 @@ impl<W: RefWords + Drop> Core<W> {
         ensures decision { self.new.decision ≡ self.old.decision }
         ensures notes { self.new.notes ≡ self.old.notes }
         ensures performed { IsPerformed script.now thread self.old.decision.moves self.old.state self.new.state self.old.ready self.new.ready effects.old effects.new }
+        ensures own { result ≡ true → AreOwn thread self.old.decision.moves }
     {
         let tables = &mut self.tables;
         let ready = &mut self.ready;
-        for change in self.decision.moves.as_slice() {
-            tell(effects, tables, change);
-            let dead = make_move(tables, thread, change);
+        let moves = self.decision.moves.as_slice();
+        let own = is_queued(ready, thread) && are_own(thread, moves);
+        for change in moves {
+            let dead = make_move(tables, thread, change, effects);
             tell_death(effects, dead);
-            follow_move(script, tables, ready, thread, change);
+            follow_move(script, tables, ready, thread, change, own);
         }
+        own
     }
 
-    /// The action of a thread that was decided is made. Its effects come into an empty list.
-    pub fn make(&mut self, script: &Script, thread: ThreadNo, effects: &mut Effects)
+    /// The action of a thread that was decided is made. Its effects come into an empty list. It answers whether its moves are all known
+    /// for the thread's own.
+    pub fn make(&mut self, script: &Script, thread: ThreadNo, effects: &mut Effects) -> bool
         requires goes { ActionGoes script.now thread self.old.decision.moves self.old.state }
         requires may { MayChoose thread self.old.notes self.old.state }
         requires empty { effects.old ≡ [] }
         ensures made { IsMade script.now thread self.old.decision self.old self.new effects.new }
+        ensures own { result ≡ true → AreOwn thread self.old.decision.moves }
     {
-        self.perform(script, thread, effects);
+        self.perform(script, thread, effects)
     }
 
     /// Callers share the kernel, and the next action keeps what it closes.
@@ -122,8 +130,10 @@ impl<W: RefWords + Drop> Core<W> {
         leave_along(script, &self.tables, &mut self.ready, thread, moves);
     }
 
-    /// Of those that the moves touched that were decided for a thread, who isn't ready leaves the queues.
-    pub fn leave(&mut self, script: &Script, thread: ThreadNo)
+    /// Of those that the moves touched that were decided for a thread, who isn't ready leaves the queues. The caller may know that the moves
+    /// are all the thread's own.
+    pub fn leave(&mut self, script: &Script, thread: ThreadNo, own: bool)
+        requires own { own ≡ true → AreOwn thread self.old.decision.moves }
         ensures state { self.new.state ≡ self.old.state }
         ensures words { self.new.words ≡ self.old.words }
         ensures notes { self.new.notes ≡ self.old.notes }
@@ -131,7 +141,7 @@ impl<W: RefWords + Drop> Core<W> {
         ensures queues { (rank : ObjNo → ℕ) → Follow rank (leave_along script.now self.old.state thread self.old.decision.moves) self.old.ready self.new.ready }
     {
         let moves = self.decision.moves.as_slice();
-        leave_along(script, &self.tables, &mut self.ready, thread, moves);
+        leave_unless_own(script, &self.tables, &mut self.ready, thread, moves, own);
     }
 
     /// Whom the queues let act.

@@ -1,10 +1,14 @@
 //! Moves in the kernel's tables: each changes the rows, and the counts move with what it tells.
-ghost use Rattle.std.specs.Prelude.{◌≡◌};
+ghost use Rattle.std.specs.Prelude.{◌≡◌, ◌+◌, ◌≤◌, ◌++◌, length};
 ghost use Rattle.sym_base.specs.declared.number.ObjNo.{ObjNo};
-ghost use Rattle.readings.specs.Dying.{dead_by};
+ghost use Rattle.machine.specs.MessageMoves.{message_told};
+ghost use Rattle.machine.specs.RequestMoves.{request_told};
+ghost use Rattle.readings.specs.Dying.{dead_by, told_alive};
+ghost use Rattle.table_moves.specs.RequestMoved.{CanRequest};
 ghost use Rattle.kernel_tables.specs.Choosing.{MayClose, closing_bit};
-ghost use Rattle.kernel_tables.specs.Moved.{CanMake, CanGain, CanAdvance, CanMove, HasPlaceFor, IsMoved, IsOther, chosen_state, making_bit};
+ghost use Rattle.kernel_tables.specs.Moved.{CanMake, CanGain, CanAdvance, CanMove, HasPlaceFor, IsMoved, IsRare, chosen_state, making_bit};
 ghost use Rattle.kernel_tables.specs.Noted.{AreKept, TiedTables};
+ghost use Rattle.kernel_tables.specs.ServerMoved.{CanMessage};
 ghost use Rattle.kernel_tables.specs.StateOf.{state_of};
 
 use crate::closings::{lose, pay};
@@ -14,8 +18,9 @@ use crate::handle_moves::gain_slot;
 use crate::lock_moves::move_lock;
 use crate::server_moves::{move_message, move_server};
 use crate::tables::Tables;
-use entry_log::{Holder, Part};
-use machine::{Move, Waiting};
+use entry_log::{Effects, Holder, Part};
+use machine::{MessageMove, Move, RequestMove, Waiting};
+use readings::{tell, tell_message, tell_request};
 use ref_words::RefWords;
 use sym_base::{Kind, Name, ObjNo, ThreadNo};
 use table_moves::{
@@ -113,21 +118,121 @@ fn find<W: RefWords + Drop>(tables: &mut Tables<W>, thread: ThreadNo, object: Ob
     threads_find(&mut tables.procs, thread, object, place);
 }
 
-/// One move by which no reference is given up, in an action of a thread.
-fn make_other<W: RefWords + Drop>(tables: &mut Tables<W>, thread: ThreadNo, change: &Move)
+/// One move in the table of requests, which is told.
+#[inline(never)]
+fn make_request<W: RefWords + Drop>(
+    tables: &mut Tables<W>,
+    change: &RequestMove,
+    effects: &mut Effects,
+)
+    requires can { CanRequest change.now (state_of tables.old).synchronization.requests }
+    requires kept { AreKept tables.old }
+    requires few { length effects.old + length (request_told change.now) ≤ 4 }
+    ensures moved { (t : ObjNo) → IsMoved t (Move.Requests change.now) tables.old tables.new }
+    ensures told { effects.new ≡ effects.old ++ request_told change.now }
+{
+    tell_request(effects, *change);
+    move_request(&mut tables.requests, *change);
+}
+
+/// One move in the table of messages in an action of a thread, which is told from the state before it.
+#[inline(never)]
+fn make_message<W: RefWords + Drop>(
+    tables: &mut Tables<W>,
+    thread: ThreadNo,
+    change: &MessageMove,
+    effects: &mut Effects,
+)
+    requires can { CanMessage thread change.now (state_of tables.old) }
+    requires kept { AreKept tables.old }
+    requires few { length effects.old + length (message_told change.now (state_of tables.old).serving.messages) ≤ 4 }
+    ensures moved { IsMoved thread (Move.Messages change.now) tables.old tables.new }
+    ensures told { effects.new ≡ effects.old ++ message_told change.now (state_of tables.old).serving.messages }
+{
+    tell_message(effects, tables, change);
+    move_message(tables, thread, *change);
+}
+
+/// One move of a rare kind in an action of a thread, which is told from the state before it. Such moves stand apart from the others,
+/// so that these don't make places for what they carry.
+#[inline(never)]
+fn make_rare<W: RefWords + Drop>(
+    tables: &mut Tables<W>,
+    thread: ThreadNo,
+    change: &Move,
+    effects: &mut Effects,
+)
+    requires can { CanMove thread change.now (state_of tables.old) }
+    requires kept { AreKept tables.old }
+    requires few { length effects.old + length (told_alive change.now (state_of tables.old)) ≤ 4 }
+    requires rare { IsRare change.now }
+    ensures moved { IsMoved thread change.now tables.old tables.new }
+    ensures told { effects.new ≡ effects.old ++ told_alive change.now (state_of tables.old) }
+{
+    tell(effects, tables, change);
+    match *change {
+        Move::SetPriority(other, priority) => set_priority(tables, other, priority),
+        Move::Nano(change) => move_nano(&mut tables.nano, change),
+        Move::Deferred(change) => tables.deferred.change(change),
+        Move::Locks(change) => move_lock(tables, change),
+        Move::Logons(change) => move_logon(&mut tables.cleanup, change),
+        Move::Death(change) => move_death(tables, thread, &change),
+        Move::Servers(change) => move_server(tables, change),
+        Move::Fill(process, at, length, byte) => {
+            fill(&mut tables.procs, process, at, length, byte);
+        }
+        Move::Copies(change) => move_copy(tables, change),
+        _ => unreachable!(),
+    }
+}
+
+/// One move in an action of a thread, which is told from the state before it, but for a death, if it tells something. An object that
+/// died of it is answered.
+#[inline(always)]
+pub fn make_move<W: RefWords + Drop>(
+    tables: &mut Tables<W>,
+    thread: ThreadNo,
+    change: &Move,
+    effects: &mut Effects,
+) -> Option<ObjNo>
     requires can { CanMove thread change.now (state_of tables.old) }
     requires place { HasPlaceFor (making_bit change.now) tables.old }
     requires kept { AreKept tables.old }
-    requires other { IsOther change.now }
-    ensures { IsMoved thread change.now tables.old tables.new }
+    requires may { closing_bit change.now ≡ 1 → MayClose tables.old.objects.notes (state_of tables.old) }
+    requires few { length effects.old + length (told_alive change.now (state_of tables.old)) ≤ 4 }
+    ensures moved { IsMoved thread change.now tables.old tables.new }
+    ensures dead { result ≡ dead_by change.now (chosen_state tables.old tables.new) }
+    ensures told { effects.new ≡ effects.old ++ told_alive change.now (state_of tables.old) }
 {
     match *change {
-        Move::Make(kind, name, holder) => make(tables, kind, name, holder),
-        Move::Gain(holder, object) => gain(tables, holder, object),
-        Move::Lose(_, _) | Move::Pay(_) => unreachable!(),
-        Move::Find(other, object) => find(tables, other, object),
-        Move::Open(other, object, part) => open_found(tables, other, object, part),
-        Move::Miss(other, _) => threads_miss(&mut tables.procs, other),
+        Move::Make(kind, name, holder) => {
+            tell(effects, tables, change);
+            make(tables, kind, name, holder);
+        }
+        Move::Gain(holder, object) => {
+            tell(effects, tables, change);
+            gain(tables, holder, object);
+        }
+        Move::Lose(holder, object) => {
+            tell(effects, tables, change);
+            return lose(tables, thread, holder, object);
+        }
+        Move::Pay(what) => {
+            tell(effects, tables, change);
+            return pay(tables, thread, what);
+        }
+        Move::Find(other, object) => {
+            tell(effects, tables, change);
+            find(tables, other, object);
+        }
+        Move::Open(other, object, part) => {
+            tell(effects, tables, change);
+            open_found(tables, other, object, part);
+        }
+        Move::Miss(other, _) => {
+            tell(effects, tables, change);
+            threads_miss(&mut tables.procs, other);
+        }
         Move::GoOn(other, part) => threads_go_on(&mut tables.procs, other, part),
         Move::Keep(other, number) => threads_keep(&mut tables.procs, other, number),
         Move::Write(other, register, value) => {
@@ -140,42 +245,9 @@ fn make_other<W: RefWords + Drop>(tables: &mut Tables<W>, thread: ThreadNo, chan
         Move::Advance(other) => advance(tables, other),
         Move::Wait(other, what) => threads_wait(&mut tables.procs, other, what),
         Move::Wake(other) => threads_wait(&mut tables.procs, other, Waiting::Nothing),
-        Move::SetPriority(other, priority) => set_priority(tables, other, priority),
-        Move::Nano(change) => move_nano(&mut tables.nano, change),
-        Move::Deferred(change) => tables.deferred.change(change),
-        Move::Requests(change) => move_request(&mut tables.requests, change),
-        Move::Locks(change) => move_lock(tables, change),
-        Move::Logons(change) => move_logon(&mut tables.cleanup, change),
-        Move::Death(change) => move_death(tables, thread, &change),
-        Move::Servers(change) => move_server(tables, change),
-        Move::Messages(change) => move_message(tables, thread, change),
-        Move::Fill(process, at, length, byte) => {
-            fill(&mut tables.procs, process, at, length, byte);
-        }
-        Move::Copies(change) => move_copy(tables, change),
+        Move::Requests(ref change) => make_request(tables, change, effects),
+        Move::Messages(ref change) => make_message(tables, thread, change, effects),
+        _ => make_rare(tables, thread, change, effects),
     }
-}
-
-/// One move in an action of a thread. An object that died of it is answered.
-#[inline(always)]
-pub fn make_move<W: RefWords + Drop>(
-    tables: &mut Tables<W>,
-    thread: ThreadNo,
-    change: &Move,
-) -> Option<ObjNo>
-    requires can { CanMove thread change.now (state_of tables.old) }
-    requires place { HasPlaceFor (making_bit change.now) tables.old }
-    requires kept { AreKept tables.old }
-    requires may { closing_bit change.now ≡ 1 → MayClose tables.old.objects.notes (state_of tables.old) }
-    ensures moved { IsMoved thread change.now tables.old tables.new }
-    ensures dead { result ≡ dead_by change.now (chosen_state tables.old tables.new) }
-{
-    match *change {
-        Move::Lose(holder, object) => lose(tables, thread, holder, object),
-        Move::Pay(what) => pay(tables, thread, what),
-        _ => {
-            make_other(tables, thread, change);
-            None
-        }
-    }
+    None
 }

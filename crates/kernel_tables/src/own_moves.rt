@@ -1,11 +1,11 @@
-//! Moves that touch nobody but the thread that acts, as most do: the queues of ready threads don't change by them.
+//! Moves that touch no thread but the one that acts, as most do: the queues of ready threads don't change by them.
 ghost use Rattle.std.specs.Prelude.{◌≡◌, true};
 ghost use Rattle.kernel_tables.specs.OwnMoves.{AreOwn, IsOwn};
 
 use machine::{MessageMove, Move, Owed};
-use sym_base::ThreadNo;
+use sym_base::{Limits, ThreadNo};
 
-/// Whether a move touches nobody but the thread that acts, and takes nobody out of the queues. Of rare moves it isn't told.
+/// Whether a move touches no other thread than the one that acts, and takes nobody out of the queues. Of rare moves it isn't told.
 pub fn is_own(thread: ThreadNo, change: &Move) -> bool
     ensures { result ≡ true → IsOwn thread change.now }
 {
@@ -25,6 +25,7 @@ pub fn is_own(thread: ThreadNo, change: &Move) -> bool
         | Move::Fill(_, _, _, _)
         | Move::Copies(_)
         | Move::Pay(Owed::Close(_, _)) => true,
+        Move::Pay(Owed::Sweep(object)) => object.0 as usize >= Limits::BOOT_OBJECTS,
         Move::Find(other, _)
         | Move::Open(other, _, _)
         | Move::Miss(other, _)

@@ -1,6 +1,6 @@
 //! The queues of ready threads follow the moves of an action: who becomes ready comes, and who has nothing left to
 //! do leaves at the end.
-ghost use Rattle.std.specs.Prelude.{◌≡◌, ℕ, ◌<◌, true, List, [], ◌∷◌};
+ghost use Rattle.std.specs.Prelude.{◌≡◌, ℕ, ◌<◌, true, false, List, [], ◌∷◌};
 ghost use Rattle.sym_base.specs.declared.limits.TheConstants.Limits.{BOOT_OBJECTS};
 ghost use Rattle.sym_base.specs.declared.number.ObjNo.{ObjNo};
 ghost use Rattle.machine.specs.Arrivals.{arrive, one_of, taken_out, threads_of, unlisted};
@@ -9,10 +9,11 @@ ghost use Rattle.ready_list.specs.Ready.{IsReady};
 ghost use Rattle.machine.specs.Choice.{chosen, priority_of};
 ghost use Rattle.machine.specs.Tick.{after_tick};
 ghost use Rattle.kernel_tables.specs.Moved.{AreKnown};
+ghost use Rattle.kernel_tables.specs.OwnMoves.{AreOwn, IsOwn};
 ghost use Rattle.kernel_tables.specs.ReadyQueues.{Follow, FollowsMove, pairs, leave, leave_along};
 ghost use Rattle.kernel_tables.specs.StateOf.{state_of};
 
-use crate::own_moves::{are_own, is_own};
+use crate::own_moves::are_own;
 use crate::staying::is_running;
 use crate::tables::Tables;
 use entry_log::Actor;
@@ -69,9 +70,10 @@ pub fn arrive_touched<W: RefWords + Drop>(
 }
 
 /// Whether a thread stands in a queue.
-fn is_queued(ready: &ReadyList, thread: ThreadNo) -> bool
+pub fn is_queued(ready: &ReadyList, thread: ThreadNo) -> bool
     requires { ready.now.threads ≡ BOOT_OBJECTS }
-    ensures { result ≡ true → IsReady ready.now thread }
+    ensures there { result ≡ true → IsReady ready.now thread }
+    ensures absent { result ≡ false → thread.0 < BOOT_OBJECTS → ¬ IsReady ready.now thread }
 {
     (thread.0 as usize) < Limits::BOOT_OBJECTS && ready.priority_of(thread).is_some()
 }
@@ -103,8 +105,8 @@ fn take_out(ready: &mut ReadyList, change: &Move)
     }
 }
 
-/// The queues follow a move: whom it takes out leaves, and then those come that it touched. Most moves touch the acting thread alone,
-/// which stands in a queue already.
+/// The queues follow a move: whom it takes out leaves, and then those come that it touched. They stay if the move is the own one of a
+/// thread that stands in a queue, as most moves are.
 #[inline(always)]
 pub fn follow_move<W: RefWords + Drop>(
     script: &Script,
@@ -112,13 +114,16 @@ pub fn follow_move<W: RefWords + Drop>(
     ready: &mut ReadyList,
     thread: ThreadNo,
     change: &Move,
+    own: bool,
 )
     requires known { AreKnown (state_of tables.now) }
     requires size { ready.old.threads ≡ BOOT_OBJECTS }
+    requires alone { own ≡ true → IsOwn thread change.now × IsReady ready.old thread }
     ensures size { ready.new.threads ≡ BOOT_OBJECTS }
+    ensures stays { own ≡ true → ready.new ≡ ready.old }
     ensures queues { FollowsMove script.now thread change.now (state_of tables.now) ready.old ready.new }
 {
-    if is_own(thread, change) && is_queued(ready, thread) {
+    if own {
         return;
     }
     take_out(ready, change);
@@ -142,7 +147,7 @@ fn leave_unready<W: RefWords + Drop>(
     }
 }
 
-/// A thread that isn't ready leaves.
+/// A thread that isn't ready leaves, if it stands in a queue.
 #[inline(always)]
 fn leave<W: RefWords + Drop>(
     script: &Script,
@@ -157,7 +162,7 @@ fn leave<W: RefWords + Drop>(
     let Some(thread) = thread else {
         return;
     };
-    if is_running(tables, thread) {
+    if is_running(tables, thread) || !is_queued(ready, thread) {
         return;
     }
     leave_unready(script, tables, ready, thread);
@@ -210,6 +215,27 @@ pub fn leave_along<W: RefWords + Drop>(
     ensures queues { (rank : ObjNo → ℕ) → Follow rank (leave_along script.now (state_of tables.now) thread moves.now) ready.old ready.new }
 {
     if is_running(tables, thread) && are_own(thread, moves) {
+        return;
+    }
+    leave_each(script, tables, ready, thread, moves);
+}
+
+/// Of those that the moves of an action touched, who isn't ready leaves: nobody, if they are all the acting thread's own and it runs on.
+#[inline(always)]
+pub fn leave_unless_own<W: RefWords + Drop>(
+    script: &Script,
+    tables: &Tables<W>,
+    ready: &mut ReadyList,
+    thread: ThreadNo,
+    moves: &[Move],
+    own: bool,
+)
+    requires size { ready.old.threads ≡ BOOT_OBJECTS }
+    requires own { own ≡ true → AreOwn thread moves.now }
+    ensures size { ready.new.threads ≡ BOOT_OBJECTS }
+    ensures queues { (rank : ObjNo → ℕ) → Follow rank (leave_along script.now (state_of tables.now) thread moves.now) ready.old ready.new }
+{
+    if own && is_running(tables, thread) {
         return;
     }
     leave_each(script, tables, ready, thread, moves);

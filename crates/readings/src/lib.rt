@@ -9,7 +9,7 @@ mod reads;
 mod task;
 
 pub use deaths::{dead_by, tell_whole};
-pub use move_effects::{tell, tell_death};
+pub use move_effects::{tell, tell_death, tell_message, tell_request};
 pub use plain_reads::{
     burial_of, burial_place, first_of_greatest, first_used, is_buried_by, is_left, is_one_left,
     is_queued,

@@ -42,7 +42,7 @@ fn tell_nano(effects: &mut Effects, change: NanoMove)
 }
 
 /// Tells a move in the rows of requests: which status of whom got which code.
-fn tell_request(effects: &mut Effects, change: RequestMove)
+pub fn tell_request(effects: &mut Effects, change: RequestMove)
     requires { length effects.old + length (request_told change) ≤ 4 }
     ensures { effects.new ≡ effects.old ++ request_told change }
 {
@@ -136,7 +136,7 @@ fn tell_accepted(effects: &mut Effects, number: MsgNo, session: ObjNo, client: T
 }
 
 /// Tells a move in the rows of messages, from the state before it: which message is accepted, or finished with which code.
-fn tell_message<R: Reads>(effects: &mut Effects, reads: &R, change: &MessageMove)
+pub fn tell_message<R: Reads>(effects: &mut Effects, reads: &R, change: &MessageMove)
     requires readable { R.is_readable reads.now }
     requires few { length effects.old + length (message_told change.now (R.state reads.now).serving.messages) ≤ 4 }
     ensures { effects.new ≡ effects.old ++ message_told change.now (R.state reads.now).serving.messages }
@@ -152,6 +152,7 @@ fn tell_message<R: Reads>(effects: &mut Effects, reads: &R, change: &MessageMove
 }
 
 /// Tells a move but for a death, from the state before it, behind the effects so far.
+#[inline(always)]
 pub fn tell<R: Reads>(effects: &mut Effects, reads: &R, change: &Move)
     requires readable { R.is_readable reads.now }
     requires few { length effects.old + length (told_alive change.now (R.state reads.now)) ≤ 4 }

@@ -12,4 +12,5 @@ returns g c = record {
     went = c.requires.goes.each c.perform.new.self.state.mode.keep;
     performed = rw c.requires.empty at c.perform.ensures.performed;
   };
+  own = c.perform.ensures.own;
 }
