@@ -1,9 +1,9 @@
 -- What is kept of the queues stays so, and what each call leaves.
-use Rattle.std.proofs.Common.{◌≡◌, ℕ, suc, ◌+◌, ◌-◌, ◌<◌, ◌≤◌, Bool, true, false, not, eqb, if◌then◌else◌, List, [], ◌∷◌, ◌++◌, length, map, set, get_or, drop, refl, sym, ap, ◌∙◌, arith, inl, inr, get_or-set_same, get_or-set_other, length-set, replicate}
+use Rattle.std.proofs.Common.{◌≡◌, ℕ, suc, ◌+◌, ◌-◌, ◌<◌, ◌≤◌, true, false, not, eqb, if◌then◌else◌, List, [], ◌∷◌, ◌++◌, length, map, set, get_or, drop, refl, sym, ap, ◌∙◌, arith, inl, inr, get_or-set_same, get_or-set_other, length-set, replicate}
 use Rattle.std.specs.Prelude.{Some, All, slice_get}
 use Rattle.std.specs.List.{list_any}
 use Rattle.std.proofs.Math.Bool.{or-false}
-use Rattle.std.proofs.lemmas.Bool.{cases_Bool, cases_eq, cases_lt}
+use Rattle.std.proofs.lemmas.Bool.{cases_Bool, cases_eq, cases_lt, false_from_ne_true}
 use Rattle.std.proofs.lemmas.List.{map-append, get_or-map}
 use Rattle.std.proofs.lemmas.List.Elements.{All-get_or, All-push, All-filter}
 use Rattle.std.proofs.lemmas.Option.{slice_get_within, get_or_from_slice_get}
@@ -208,20 +208,15 @@ module _ (idfcs : ℕ) (places : List DfcPlace) (priorities : List ℕ) (links :
   pub popped_kept : AreKept idfcs places priorities (with_list links 0 (drop 1 (list_at links 0)))
   popped_kept = with_list_kept 0 (drop 1 (list_at links 0)) kept.some (λ q is. absurd (omega arith))
 
--- a test that fails has the other answer
-pub unheld : (b : Bool) → (b ≡ true → ⊥) → b ≡ false
-unheld true fails = absurd (fails refl)
-unheld false fails = refl
-
 -- an item whose node stands on no list may be queued again
 pub node_free : (idfcs : ℕ) (places : List DfcPlace) (priorities : List ℕ) (links : Linked)
     → AreKept idfcs places priorities links → (node : ℕ) → (list_any (holds node) links.lists ≡ true → ⊥)
     → is_queued (calls_of idfcs places links) (item_of (length places) node) ≡ false
 node_free idfcs places priorities links kept node free =
-    node_queued idfcs places priorities links kept node ∙ unheld (list_any (holds node) links.lists) free
+    node_queued idfcs places priorities links kept node ∙ false_from_ne_true (list_any (holds node) links.lists) free
 
 pub move_free : (idfcs : ℕ) (places : List DfcPlace) (priorities : List ℕ) (links : Linked)
     → AreKept idfcs places priorities links → (dfc : ℕ) → dfc < length places
     → (list_any (holds dfc) links.lists ≡ true → ⊥) → is_queued (calls_of idfcs places links) (Move dfc) ≡ false
 move_free idfcs places priorities links kept dfc low free =
-    move_queued idfcs places priorities links kept dfc low ∙ unheld (list_any (holds dfc) links.lists) free
+    move_queued idfcs places priorities links kept dfc low ∙ false_from_ne_true (list_any (holds dfc) links.lists) free

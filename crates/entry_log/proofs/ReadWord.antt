@@ -1,8 +1,8 @@
 -- A word is read again from its text.
-use Rattle.sym_base.specs.WordText.{all_words, word_text, word_of as word_found}
+use Rattle.sym_base.specs.WordText.{word_text, word_of as word_found}
 use Rattle.sym_base.specs.declared.word.Word.{Word}
 use Rattle.sym_base.specs.declared.word.Word.TheVariants.{Create}
-use Rattle.std.proofs.Common.{◌≡◌, ℕ, true, List, Some, unwrap_or, refl}
+use Rattle.std.proofs.Common.{◌≡◌, ℕ, true, List, unwrap_or, refl}
 use Rattle.std.specs.List.{list_all}
 use Rattle.sym_base.specs.NameText.{name_byte}
 

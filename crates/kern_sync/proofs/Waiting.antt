@@ -1,5 +1,5 @@
 -- The waiter that is served next, and what is kept of the table.
-use Rattle.std.proofs.Common.{◌≡◌, ℕ, ◌-◌, Bool, true, false, List, [], ◌∷◌, ◌++◌, set, get_or, refl, sym, ◌∙◌, arith, length-set}
+use Rattle.std.proofs.Common.{◌≡◌, ℕ, ◌-◌, true, false, List, [], ◌∷◌, ◌++◌, set, get_or, refl, sym, ◌∙◌, arith, length-set}
 use Rattle.std.specs.Prelude.{Option, Some, None, is_some, slice_get, option_map}
 use Rattle.std.specs.List.{list_any}
 use Rattle.std.proofs.lemmas.List.{length-map, set-get_or}
@@ -15,11 +15,7 @@ use Rattle.state_rows.specs.Locks.{owner_at, count_at, waiters_at, is_waiting}
 use Rattle.state_rows.specs.LockChanges.{after_remove, after_sweep, after_wait}
 use Rattle.kern_sync.specs.Kept.{AreKept, thread, locks_of, queues_of}
 use Rattle.kern_sync.proofs.Threads.{all_without_absent, all_without_thread, any_thread, queue_thread, queue_added, queue_emptied, queue_left, option_thread}
-
--- a test that fails has the other answer
-pub unheld : (b : Bool) → (b ≡ true → ⊥) → b ≡ false
-unheld true fails = absurd (fails refl)
-unheld false fails = refl
+use Rattle.std.proofs.lemmas.Bool.{false_from_ne_true}
 
 module _ (owners : List (Option Owner)) (counts priorities : List ℕ) (links : Linked) (kept : AreKept owners counts priorities links) where
   -- one list may change
@@ -66,7 +62,7 @@ pub waits_not : (owners : List (Option Owner)) (counts priorities : List ℕ) (l
     → (list_any (nodes.holds t.0) links.lists ≡ true → ⊥)
     → is_waiting (locks_of owners counts priorities links).rows t ≡ false
 waits_not owners counts priorities links t free =
-    any_thread t links.lists ∙ unheld (list_any (nodes.holds t.0) links.lists) free
+    any_thread t links.lists ∙ false_from_ne_true (list_any (nodes.holds t.0) links.lists) free
 
 -- nobody is served next exactly where nobody waits
 pub none_best : (s : KernelLocks) (o : ObjNo) (r : Option ObjNo) → r ≡ best_of s o

@@ -34,11 +34,8 @@ allowed_append (x ∷ xs) ys one other = (one.0, allowed_append xs ys one.1 othe
 
 -- a letter and a client's digit are a name
 digit_allowed : (client : ℕ) → client < 4 → is_object_byte (48 + client) ≡ true
-digit_allowed zero h = refl
-digit_allowed (suc zero) h = refl
-digit_allowed (suc (suc zero)) h = refl
-digit_allowed (suc (suc (suc zero))) h = refl
 digit_allowed (suc (suc (suc (suc n)))) h = absurd (omega arith)
+digit_allowed _ h = refl
 
 -- the server's instructions
 server_allowed : IsAllowed (instr.Server (codes "files") 0)
@@ -92,9 +89,7 @@ round_allowed client place round.Fill few = (fill_allowed place, tt)
 
 round_short : (client place : ℕ) (r : Round) → length (round_instrs client place r) ≤ 2
 round_short client place round.Call = omega arith
-round_short client place round.Send = omega arith
-round_short client place round.Create = omega arith
-round_short client place round.Fill = omega arith
+round_short client place _ = omega arith
 
 rounds_allowed : (x client n : ℕ) → client < 4 → AreAllowed (rounds_instrs x client n)
 rounds_allowed x client zero few = tt
@@ -128,9 +123,7 @@ served_short (suc n) = let before = served_short n in simp length-append (omega 
 -- a round sends one message at most
 one_message : (r : Round) → round_messages r ≤ 1
 one_message round.Call = omega arith
-one_message round.Send = omega arith
-one_message round.Create = omega arith
-one_message round.Fill = omega arith
+one_message _ = omega arith
 
 pub messages_few : (x n : ℕ) → rounds_messages x n ≤ n
 messages_few x zero = omega arith

@@ -105,10 +105,10 @@ pub fn boot_of(
     requires { length all.now ≤ 65536 }
     ensures { IfOk result (λ state. state ≡ boot_of reuse pool fast calls all.now) }
 {
-    let references = references_of(alloc, all)?;
-    let synchronization = synchronization_of(alloc, fast, calls, all)?;
-    let serving = serving_of(alloc, pool, all)?;
     let services = services_of(alloc, all)?;
+    let references = references_of(alloc, all)?;
+    let serving = serving_of(alloc, pool, all)?;
+    let synchronization = synchronization_of(alloc, fast, calls, all)?;
     Ok(State {
         mode: Mode {
             shared: false,

@@ -1,5 +1,5 @@
 -- The queues of keys, as messages come, change and go.
-use Rattle.std.proofs.Common.{◌≡◌, ℕ, ◌≤◌, Bool, true, false, not, ◌&&◌, eqb, List, [], ◌∷◌, length, get_or, map, refl, sym, ap, ◌∙◌, inl, inr, eq-eqb}
+use Rattle.std.proofs.Common.{◌≡◌, ℕ, ◌≤◌, Bool, true, false, not, eqb, List, [], ◌∷◌, length, get_or, map, refl, sym, ap, ◌∙◌, inl, inr, eq-eqb}
 use Rattle.std.specs.Prelude.{Some, is_some, All, filter, slice_get}
 use Rattle.std.specs.List.{find, list_any}
 use Rattle.std.proofs.Math.ListN.{get_or-map}
@@ -16,6 +16,7 @@ use Rattle.sym_base.specs.declared.number.MsgNo.{MsgNo}
 use Rattle.state_rows.specs.MessageRows.{is_at, waits_at}
 use Rattle.messages.specs.Kept.{Store, has_key, is_numbered, with_row}
 use Rattle.messages.specs.Queued.{AreMessages, AreQueued, keys_where}
+use Rattle.std.proofs.Math.Bool.{and-false}
 
 module _ (test : Message → Bool) where
   -- a message that goes is gone among them
@@ -157,10 +158,6 @@ row_number bound key row one low =
     elim (cases_Bool (eqb one.key key)) [ inl same ↦ rw same low | inr apart ↦ rw apart low ]
 
 -- nothing waits where it was taken
-taken_fails : (b : Bool) → (b && false) ≡ false
-taken_fails true = refl
-taken_fails false = refl
-
 module _ (objects accepted : ℕ) (store : Store) (outstanding untaken : Linked) (are : AreMessages objects accepted store outstanding untaken) where
   -- a message goes
   pub messages_gone : (m : MsgNo) (key : ℕ) → All (λ other. has_key key other ≡ is_numbered m other) store.stored
@@ -203,7 +200,7 @@ module _ (objects accepted : ℕ) (store : Store) (outstanding untaken : Linked)
       waiting =
           queued_gone waits_at store (length outstanding.lists) untaken are.waiting
           (map (with_row one.key row) store.stored) one.key
-          (λ v. where_left (waits_at v) one.key row (λ message. rw taken (taken_fails (eqb row.server.0 v))) store.stored);
+          (λ v. where_left (waits_at v) one.key row (λ message. rw taken (and-false (eqb row.server.0 v))) store.stored);
       numbers = numbers_same;
     }
 

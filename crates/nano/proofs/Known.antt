@@ -53,9 +53,7 @@ dfc_known script (Some n) item inside is =
 op_known : (script : Script) (what : Op) (item : Item) → item_of script what ≡ Some item → IsKnown (calls_of script) item
 op_known script (op.Idfc name) item is = idfc_known script _ item (found_inside (λ (d : IdfcDecl). bytes_eq name d.name) script.idfcs) is
 op_known script (op.Dfc name) item is = dfc_known script _ item (found_inside (λ (d : DfcDecl). bytes_eq name d.name) script.dfcs) is
-op_known script (op.Fssignal name) item is = absurd (cc)
-op_known script (op.Device x code) item is = absurd (cc)
-op_known script (op.Queue name) item is = absurd (cc)
+op_known script _ item is = absurd (cc)
 
 -- the items of a body
 joined : (P : Item → Type 0) (first : Option Item) (items : List Item) → ((item : Item) → first ≡ Some item → P item)

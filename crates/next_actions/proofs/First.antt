@@ -50,11 +50,7 @@ first_of_parts : (mutexes : List ObjNo) (work : List Holding) (used : Option Obj
     → first_of (slice_get mutexes 0) (slice_get work 0) used (slice_get handles 0) (slice_get logons 0)
     ≡ slice_get (map (λ o. Mutex o) mutexes ++ work ++ held_use used ++ handles ++ map (λ (logon : ObjNo × ℕ). Logon logon.0 logon.1) logons) 0
 first_of_parts [] [] None [] [] = refl
-first_of_parts [] [] None [] (logon ∷ logons) = refl
-first_of_parts [] [] None (handle ∷ handles) logons = refl
-first_of_parts [] [] (Some o) handles logons = refl
-first_of_parts [] (what ∷ work) used handles logons = refl
-first_of_parts (o ∷ mutexes) work used handles logons = refl
+first_of_parts _ _ _ _ _ = refl
 
 first_of_all : (S : State) (t : ObjNo) (row : ThreadRow)
     → first_of (slice_get (slice_index_or S.synchronization.mutexes t.0 []) 0) (slice_get (held_servers S t) 0) row.uses

@@ -38,8 +38,7 @@ pub ruleset work_first = (message_first, link_first, server_first)
 work_before : (messages : List Message) (sessions : List ObjNo) (o : ObjNo) (rest : List Holding)
     → slice_get (work_by_parts messages sessions o ++ rest) 0 ≡ slice_get (work_by_parts messages sessions o) 0
 work_before [] [] o rest = refl
-work_before [] (x ∷ xs) o rest = refl
-work_before (x ∷ xs) sessions o rest = refl
+work_before _ _ o rest = refl
 
 -- so the first closing server of some has what comes first, and where none is closing there is nothing
 first_if : (S : State) (x : ObjNo) (later : Option ObjNo) (rest : List Holding) (o : ObjNo) (closing : Bool)

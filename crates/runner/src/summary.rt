@@ -36,20 +36,6 @@ pub struct Summary {
     pub objects: usize,
 }
 
-/// Whether an effect accepts a message.
-fn accepts(effect: &Effect) -> bool
-    ensures { result ≡ is_accept effect.now }
-{
-    matches!(effect, Effect::Accept(_))
-}
-
-/// Whether it finishes one.
-fn finishes(effect: &Effect) -> bool
-    ensures { result ≡ is_finish effect.now }
-{
-    matches!(effect, Effect::Finish(..))
-}
-
 /// How many messages were accepted, and how many finished.
 #[derive(Clone, Copy)]
 struct Messages {
@@ -57,41 +43,45 @@ struct Messages {
     finished: usize,
 }
 
-/// Counts the messages that an entry accepts and finishes, in one pass over its effects.
-fn messages_by(entry: &Entry) -> Messages
-    ensures accepted { result.accepted ≡ count_by is_accept entry.now.effects }
-    ensures finished { result.finished ≡ count_by is_finish entry.now.effects }
-    ensures few_accepted { result.accepted ≤ 4 }
-    ensures few_finished { result.finished ≤ 4 }
+/// Counts the messages that an entry accepts and finishes beside those before it, in one pass over its effects. It is
+/// copied into its caller, whose two counts so stay in registers.
+#[inline(always)]
+fn with_messages_by(before: Messages, entry: &Entry) -> Messages
+    requires accepted { before.accepted ≤ 262144 }
+    requires finished { before.finished ≤ 262144 }
+    ensures accepted { result.accepted ≡ before.accepted + count_by is_accept entry.now.effects }
+    ensures finished { result.finished ≡ before.finished + count_by is_finish entry.now.effects }
+    ensures few_accepted { result.accepted ≤ before.accepted + 4 }
+    ensures few_finished { result.finished ≤ before.finished + 4 }
 {
     let effects = entry.effects.as_slice();
-    let mut accepted = 0;
-    let mut finished = 0;
+    let mut accepted = before.accepted;
+    let mut finished = before.finished;
     for effect in effects {
-        if accepts(effect) {
-            accepted += 1;
-        }
-        if finishes(effect) {
-            finished += 1;
+        match effect {
+            Effect::Accept(_) => accepted += 1,
+            Effect::Finish(..) => finished += 1,
+            _ => {}
         }
     }
     Messages { accepted, finished }
 }
 
 /// Counts the messages of a history.
+#[inline(never)]
 fn messages_of(history: &[Entry]) -> Messages
     requires { length history.now ≤ 65536 }
     ensures accepted { result.accepted ≡ effects_that is_accept history.now }
     ensures finished { result.finished ≡ effects_that is_finish history.now }
 {
-    let mut accepted = 0;
-    let mut finished = 0;
+    let mut messages = Messages {
+        accepted: 0,
+        finished: 0,
+    };
     for entry in history {
-        let messages = messages_by(entry);
-        accepted += messages.accepted;
-        finished += messages.finished;
+        messages = with_messages_by(messages, entry);
     }
-    Messages { accepted, finished }
+    messages
 }
 
 /// The number of objects that are left.

@@ -45,9 +45,7 @@ body_within c (line.Idfc name ops) h = leb-true (length ops) 4 (both (nat_lt (le
 body_within c (line.IrqBody k ops) h = leb-true (length ops) 4 (both (nat_lt (length c.script.irqs) 32) (nat_le (length ops) 4) h).1
 body_within c (line.Instr what) h = instr_within what
 body_within c (line.KernelThread name p true) h = omega arith
-body_within c (line.KernelThread name p false) h = omega arith
 body_within c (line.Thread name p true) h = omega arith
-body_within c (line.Thread name p false) h = omega arith
 body_within c _ h = omega arith
 
 printed : (file : List Declared) (c : Context) (lines : List SourceLine) → AllStand file c lines → Printed lines

@@ -1,6 +1,6 @@
 -- Printed words and lines are cut again where they were joined.
-use Rattle.std.proofs.Common.{◌≡◌, ℕ, ◌*◌, ◌<◌, ◌≤◌, Bool, true, false, List, [], ◌∷◌, ◌++◌, append_assoc, length, length-append, refl, ap, ◌∙◌, arith}
-use Rattle.std.proofs.lemmas.Bool.{le-leb, leb-true}
+use Rattle.std.proofs.Common.{◌≡◌, ℕ, ◌*◌, ◌<◌, ◌≤◌, Bool, true, List, [], ◌∷◌, ◌++◌, append_assoc, length, length-append, refl, ap, ◌∙◌, arith}
+use Rattle.std.proofs.lemmas.Bool.{le-leb, leb-true, not-true}
 use Rattle.std.proofs.lemmas.Bool.Decides.{nat_tests}
 use Rattle.std.proofs.lemmas.List.{append-nil}
 use Rattle.std.specs.List.{AllByRecursion, filter, flat_map, list_all}
@@ -35,21 +35,17 @@ ArePlain words = AllByRecursion (λ (w : List ℕ). is_plain w ≡ true) words
 abbrev is_free : ℕ → List ℕ → Bool
 is_free at bytes = list_all (λ byte. not (byte == at)) bytes
 
-other : (b : Bool) → not b ≡ true → b ≡ false
-other true h = absurd (cc)
-other false h = refl
-
 split_free : (at : ℕ) (bytes : List ℕ) → is_free at bytes ≡ true → split (λ byte. byte == at) bytes ≡ bytes ∷ []
 split_free at [] h = refl
 split_free at (b ∷ bs) h =
     let parts = both (not (b == at)) (is_free at bs) h in
-    rw (other (b == at) parts.0, split_free at bs parts.1) refl
+    rw (not-true (b == at) parts.0, split_free at bs parts.1) refl
 
 split_at : (at : ℕ) (bytes rest : List ℕ) → is_free at bytes ≡ true → split (λ byte. byte == at) (bytes ++ at ∷ rest) ≡ bytes ∷ split (λ byte. byte == at) rest
 split_at at [] rest h = let here : (at == at) ≡ true = grind (arith, nat_tests) in rw here refl
 split_at at (b ∷ bs) rest h =
     let parts = both (not (b == at)) (is_free at bs) h in
-    rw (other (b == at) parts.0, split_at at bs rest parts.1) refl
+    rw (not-true (b == at) parts.0, split_at at bs rest parts.1) refl
 
 -- words
 no_space : (b : ℕ) → is_visible b ≡ true → not (b == 32) ≡ true
@@ -119,11 +115,9 @@ lines_cut (l ∷ ls) all =
     ∙ ap (λ (xs : List (List ℕ)). l ∷ xs) (lines_cut ls all.1)
 
 end_taken : (lines : List (List ℕ)) → without_empty_end (lines ++ [] ∷ []) ≡ lines
-end_taken [] = refl
-end_taken ([] ∷ []) = refl
-end_taken ((b ∷ bs) ∷ []) = refl
 end_taken ([] ∷ next ∷ ls) = ap (λ (xs : List (List ℕ)). [] ∷ xs) (end_taken (next ∷ ls))
 end_taken ((b ∷ bs) ∷ next ∷ ls) = ap (λ (xs : List (List ℕ)). (b ∷ bs) ∷ xs) (end_taken (next ∷ ls))
+end_taken _ = refl
 
 pub lines_again : (lines : List (List ℕ)) → AllByRecursion IsClean lines → text_lines (flat_map (λ (l : List ℕ). l ++ 10 ∷ []) lines) ≡ lines
 unfolding text_lines

@@ -209,33 +209,7 @@ front_after file s rank awaits (line.Instr what) h at f =
     }
 front_after file s rank awaits line.Schedule h at f = later s rank 9 (earlier (Some rank) awaits of.Schedule refl h.order) f
 front_after file s rank awaits line.End h at f = later s rank 11 (earlier (Some rank) awaits of.End refl h.order) f
-front_after file s rank awaits (line.Go count) h at f =
-    let w = later s rank 10 (earlier (Some rank) awaits of.Slot refl h.order) f in
-    record {
-      pool = w.pool;
-      fast = w.fast;
-      queues = w.queues;
-      dfcs = w.dfcs;
-      idfcs = w.idfcs;
-      irqs = w.irqs;
-      threads = w.threads;
-      processes = w.processes;
-      slots = λ e. absurd (omega arith);
-    }
-front_after file s rank awaits (line.IrqSlot k) h at f =
-    let w = later s rank 10 (earlier (Some rank) awaits of.Slot refl h.order) f in
-    record {
-      pool = w.pool;
-      fast = w.fast;
-      queues = w.queues;
-      dfcs = w.dfcs;
-      idfcs = w.idfcs;
-      irqs = w.irqs;
-      threads = w.threads;
-      processes = w.processes;
-      slots = λ e. absurd (omega arith);
-    }
-front_after file s rank awaits line.Tick h at f =
+front_after file s rank awaits _ h at f =
     let w = later s rank 10 (earlier (Some rank) awaits of.Slot refl h.order) f in
     record {
       pool = w.pool;

@@ -21,6 +21,8 @@ use Rattle.script_types.specs.declared.source_line.LineKind.TheVariants as of
 use Rattle.script_types.specs.declared.source_line.SourceLine.{SourceLine}
 use Rattle.script_types.specs.declared.source_line.SourceLine.TheVariants as line
 use Rattle.script_types.proofs.LimitLaws.{both, or_true}
+use Rattle.std.proofs.lemmas.Bool.{or_right}
+use Rattle.script_types.proofs.NameLaws.{all_as}
 
 -- what lines declare
 abbrev pub twos : List SourceLine → List Declared
@@ -35,10 +37,6 @@ pub record Carries (file other : List Declared) : Type 0 where
   pub irqs : (number : List ℕ) → is_irq_declared file number ≡ true → is_irq_declared other number ≡ true
 
 -- so what a line names is known there too
-all_as : {A : Type 0} (test other : A → Bool) → ((x : A) → test x ≡ true → other x ≡ true) → (xs : List A) → list_all test xs ≡ true → list_all other xs ≡ true
-all_as test other go [] h = refl
-all_as test other go (x ∷ xs) h = let parts = both (test x) (list_all test xs) h in rw (go x parts.0, all_as test other go xs parts.1) refl
-
 op_again : (file other : List Declared) → Carries file other → (what : Op) → is_known_op file what ≡ true → is_known_op other what ≡ true
 op_again file other t (op.Idfc name) h = t.idfcs name h
 op_again file other t (op.Dfc name) h = t.dfcs name h
@@ -76,10 +74,6 @@ known_again file other t c (line.IrqBody k ops) h = all_as (is_known_op file) (i
 known_again file other t c (line.Instr what) h = instr_again file other c.script.fast t what h
 known_again file other t c (line.IrqSlot k) h = t.irqs (decimal k) h
 known_again file other t c _ h = refl
-
-or_later : (a b : Bool) → b ≡ true → (a || b) ≡ true
-or_later true b h = refl
-or_later false b h = h
 
 -- a sort of names that no line declares which isn't among the canonical ones
 record IsKept (sort : List ℕ) : Type 0 where
@@ -137,7 +131,7 @@ in_front sort name (x ∷ xs) ys h =
 in_rest : (sort name : List ℕ) (xs ys : List SourceLine) → is_declared (twos ys) sort name ≡ true → is_declared (twos (xs ++ ys)) sort name ≡ true
 in_rest sort name [] ys h = h
 in_rest sort name (x ∷ xs) ys h =
-    or_later (declares sort name (first_two (source_words x))) (is_declared (twos (xs ++ ys)) sort name)
+    or_right (declares sort name (first_two (source_words x))) (is_declared (twos (xs ++ ys)) sort name)
     (in_rest sort name xs ys h)
 
 names_carry : (sort : List ℕ) → IsKept sort → (lines : List SourceLine) (name : List ℕ)

@@ -1,5 +1,5 @@
 -- The words of each line in range may be printed, whatever its form, and the line isn't too long.
-use Rattle.std.proofs.Common.{◌≡◌, ℕ, ℤ, pos, negsuc, ◌*◌, ◌<◌, ◌≤◌, Bool, true, false, List, [], ◌∷◌, ◌++◌, length, length-append, suc, refl, sym, subst, ap, arith, Option, Some, None}
+use Rattle.std.proofs.Common.{◌≡◌, ℕ, ℤ, pos, negsuc, ◌*◌, ◌<◌, ◌≤◌, Bool, true, false, List, [], ◌∷◌, ◌++◌, length, length-append, suc, refl, sym, subst, arith, Option, Some, None}
 use Rattle.std.proofs.lemmas.Bool.{leb-true, ltb-true, le-leb}
 use Rattle.std.proofs.lemmas.Bool.Decides.{nat_tests}
 use Rattle.std.proofs.lemmas.Fmt.{length-decimal-le}
@@ -39,6 +39,7 @@ use Rattle.sym_base.specs.declared.kind.Slots.{Slots}
 use Rattle.sym_base.specs.declared.kind.Slots.TheVariants as slots
 use Rattle.sym_base.specs.declared.word.Word.{Word}
 use Rattle.sym_base.specs.declared.word.Word.TheVariants as word
+use Rattle.script_words.proofs.FormsAgain.{values_size}
 
 -- bytes that may be printed
 visible_more : (xs ys : List ℕ) → list_all is_visible xs ≡ true → list_all is_visible ys ≡ true → list_all is_visible (xs ++ ys) ≡ true
@@ -184,11 +185,9 @@ value_plain (operand.Lettered letter last) n fits h =
 value_plain operand.Name name fits h = name_plain name h
 value_plain operand.Category name fits h = category_plain name h
 value_plain operand.Kind what fits h = kind_plain what h
-value_plain operand.Mutex n fits h = refl
-value_plain operand.Semaphore n fits h = refl
-value_plain operand.Held n fits h = refl
 value_plain operand.Slots s fits h = slots_plain s h
 value_plain operand.Argument a fits h = arg_plain a h
+value_plain _ n fits h = refl
 
 values_plain : (operands : List Operand) (values : Values operands) → list_all is_printable operands ≡ true
     → are_values operands values ≡ true → ArePlain (value_words operands values)
@@ -220,14 +219,9 @@ instr_few false word.Create = refl
 instr_few second _ = refl
 
 form_few : (second : Bool) (k : Keyword) → (list_all is_printable (operands_of k second) && is_few (body_of k second) (operands_of k second)) ≡ true
-form_few second (key.Instr w) = instr_few second w
-form_few true key.Kthread = refl
-form_few false key.Kthread = refl
-form_few true key.Thread = refl
-form_few false key.Thread = refl
-form_few true key.Irq = refl
-form_few false key.Irq = refl
-form_few second _ = refl
+form_few true (key.Instr w) = instr_few true w
+form_few false (key.Instr w) = instr_few false w
+form_few _ _ = refl
 
 -- bodies
 abbrev behind_spaces : List (List ℕ) → List ℕ
@@ -298,10 +292,6 @@ first_told : (first : List ℕ) (words : List (List ℕ)) → is_skipped (first 
 first_told [] words h = refl
 first_told (c ∷ cs) words h = h
 
-values_few : (operands : List Operand) (values : Values operands) → length (value_words operands values) ≡ length operands
-values_few [] values = refl
-values_few (what ∷ operands) values = ap suc (values_few operands values.1)
-
 line_by : (kind : Option BodyKind) (operands : List Operand) (first : List ℕ) (values : Values operands) (ops : List Op)
     → (list_all is_printable operands && is_few kind operands) ≡ true → is_plain first ≡ true
     → is_skipped (first ∷ []) ≡ false → are_values operands values ≡ true → is_body kind ops ≡ true → length ops ≤ 4
@@ -311,7 +301,7 @@ line_by None operands first values [] few seen told range right four =
     let f = both (list_all is_printable operands) (nat_le (length operands) 7) few in
     let plain = values_plain operands values f.0 range in
     let size = more_short (value_words operands values) plain in
-    let count = values_few operands values in
+    let count = values_size operands values in
     let at_most = leb-true (length operands) 7 f.1 in
     let small = plain_short first seen in
     record {
@@ -325,7 +315,7 @@ line_by (Some kind) operands first values (what ∷ ops) few seen told range rig
     let f = both (list_all is_printable operands) (nat_le (length operands) 3) few in
     let plain = values_plain operands values f.0 range in
     let size = more_short (value_words operands values) plain in
-    let count = values_few operands values in
+    let count = values_size operands values in
     let at_most = leb-true (length operands) 3 f.1 in
     let small = plain_short first seen in
     let b = body_plain kind (what ∷ ops) right in

@@ -1,6 +1,6 @@
 -- What the lines of a file declare, with one more line.
 use Rattle.std.proofs.Common.{◌≡◌, ℕ, ◌<◌, Bool, true, false, List, [], ◌∷◌, ◌++◌, refl, sym, ap, ◌∙◌}
-use Rattle.std.proofs.Math.Bool.{or_assoc}
+use Rattle.std.proofs.Math.Bool.{or_assoc, and-false, and_assoc, and-or_distrib_right, or-false}
 use Rattle.std.proofs.lemmas.List.Folds.{list_any-append}
 use Rattle.std.specs.BTreeSet.{contains}
 use Rattle.std.specs.List.{list_any}
@@ -9,30 +9,13 @@ use Rattle.std.specs.Prelude.{◌||◌, ◌&&◌, not, codes, decimal}
 use Rattle.std.specs.Str.{bytes_eq}
 use Rattle.script_read.specs.FileNames.{Knows, has_name, is_schedule}
 use Rattle.script_read.specs.declared.declarations.Declarations.{Declarations}
-use Rattle.script_read.proofs.NameSets.{or_none}
 use Rattle.script_words.proofs.Steps.{same_bytes}
 use Rattle.script_types.specs.Names.{Declared, declares, is_declared, is_thread_declared, is_irq_declared}
 
 -- tests, in another order
 swap_two : (a b c d : Bool) → ((a || b) || (c || d)) ≡ ((a || c) || (b || d))
-swap_two true b c d = refl
 swap_two false true true d = refl
-swap_two false true false d = refl
-swap_two false false c d = refl
-
-and_over : (a b c : Bool) → ((a || b) && c) ≡ ((a && c) || (b && c))
-and_over true b true = refl
-and_over true true false = refl
-and_over true false false = refl
-and_over false b c = refl
-
-pub and_false : (a : Bool) → (a && false) ≡ false
-and_false true = refl
-and_false false = refl
-
-and_assoc : (a b c : Bool) → ((a && b) && c) ≡ (a && (b && c))
-and_assoc true b c = refl
-and_assoc false b c = refl
+swap_two _ _ _ _ = refl
 
 -- a name that one more line declares
 declared_more : (file : List Declared) (sort name first second : List ℕ)
@@ -40,7 +23,7 @@ declared_more : (file : List Declared) (sort name first second : List ℕ)
     ≡ (is_declared file sort name || (bytes_eq first sort && bytes_eq second name))
 declared_more file sort name first second =
     list_any-append (declares sort name) file ((first, second) ∷ [])
-    ∙ ap (λ (b : Bool). is_declared file sort name || b) (sym (or_none (bytes_eq first sort && bytes_eq second name)))
+    ∙ ap (λ (b : Bool). is_declared file sort name || b) (or-false (bytes_eq first sort && bytes_eq second name))
 
 thread_more : (file : List Declared) (name first second : List ℕ)
     → is_thread_declared (file ++ (first, second) ∷ []) name
@@ -59,13 +42,13 @@ thread_more file name first second =
     let three = declared_more file (codes "dfcq") name first second in
     rw (one, two, three) (ap (λ (b : Bool). b || (C || (u && e))) (swap_two A (s && e) B (t && e))
     ∙ swap_two (A || B) ((s && e) || (t && e)) C (u && e)
-    ∙ ap (λ (b : Bool). (A || B || C) || b) (sym (and_over (s || t) u e ∙ ap (λ (b : Bool). b || (u && e)) (and_over s t e))))
+    ∙ ap (λ (b : Bool). (A || B || C) || b) (sym (and-or_distrib_right (s || t) u e ∙ ap (λ (b : Bool). b || (u && e)) (and-or_distrib_right s t e))))
 
 -- a line that declares an interrupt isn't `schedule`
 irq_alone : (first : List ℕ) (b test : Bool) → bytes_eq first (codes "irq") ≡ test
     → (not (bytes_eq first (codes "schedule")) && ((test && b) || false)) ≡ (test && b)
-irq_alone first b true h = let same = same_bytes first (codes "irq") h in rw same (sym (or_none b))
-irq_alone first b false h = and_false (not (bytes_eq first (codes "schedule")))
+irq_alone first b true h = let same = same_bytes first (codes "irq") h in rw same (or-false b)
+irq_alone first b false h = and-false (not (bytes_eq first (codes "schedule")))
 
 -- the tests of the first line, with what is told of the lines behind it
 irq_step : (schedule here later before more : Bool)
@@ -92,7 +75,7 @@ schedule_more : (file : List Declared) (first second : List ℕ)
     ≡ (list_any is_schedule file || bytes_eq first (codes "schedule"))
 schedule_more file first second =
     list_any-append is_schedule file ((first, second) ∷ [])
-    ∙ ap (λ (b : Bool). list_any is_schedule file || b) (sym (or_none (bytes_eq first (codes "schedule"))))
+    ∙ ap (λ (b : Bool). list_any is_schedule file || b) (or-false (bytes_eq first (codes "schedule")))
 
 -- a set of one sort
 sort_more : (old new known : Bool) (test sort : Bool) (e : Bool) → test ≡ sort → new ≡ (old || (test && e)) → old ≡ known → new ≡ (known || (sort && e))

@@ -6,13 +6,14 @@ use Rattle.std.specs.Ordering.{nat_cmp}
 use Rattle.std.specs.Prelude.{◌==◌, if◌then◌else◌, ◌||◌, ◌&&◌, not, codes}
 use Rattle.std.specs.Str.{bytes_eq}
 use Rattle.script_read.specs.FileNames.{Knows, declared_by, has_name}
-use Rattle.script_read.proofs.FileDeclares.{and_false, knows_more}
-use Rattle.script_read.proofs.NameSets.{or_none}
+use Rattle.script_read.proofs.FileDeclares.{knows_more}
 use Rattle.script_read.specs.declared.declarations.Declarations.{Declarations}
 use Rattle.script_words.proofs.SourceLines.{begins_line}
 use Rattle.script_words.proofs.Steps.{some_is}
 use Rattle.script_types.specs.Names.{Declared, first_two, file_declares}
 use Rattle.script_types.specs.SourceText.{text_lines, words_of, is_skipped}
+use Rattle.std.proofs.Math.Bool.{and-false, or-false}
+use Rattle.script_types.proofs.NameLaws.{two_first}
 
 -- what one line declares
 line_by : (line : List ℕ) (test : Bool) (found : Option Declared) → is_skipped (words_of line) ≡ test
@@ -41,10 +42,6 @@ none_of_all : (t k q d i r s : Bool) → (t || k || q || d || i || r || s) ≡ f
 none_of_all false false false false false false false h = (refl, refl, refl, refl, refl, refl)
 none_of_all _ _ _ _ _ _ _ h = absurd (cc)
 
-two_begin : (first : List ℕ) (words : List (List ℕ)) → (first_two (first ∷ words)).0 ≡ first
-two_begin first [] = refl
-two_begin first (second ∷ words) = refl
-
 pub added_nothing : (d : Declarations) (line first : List ℕ) (words : List (List ℕ)) → declared_by (words_of line) ≡ Some (first_two (first ∷ words))
     → (bytes_eq first (codes "thread") || bytes_eq first (codes "kthread") || bytes_eq first
     (codes "dfcq") || bytes_eq first (codes "dfc") || bytes_eq first (codes "idfc") || bytes_eq first
@@ -55,14 +52,14 @@ added_nothing d line first words told none file knows =
     let n = none_of_all (bytes_eq first (codes "thread")) (bytes_eq first (codes "kthread"))
     (bytes_eq first (codes "dfcq")) (bytes_eq first (codes "dfc")) (bytes_eq first (codes "idfc"))
     (bytes_eq first (codes "irq")) (bytes_eq first (codes "schedule")) none in
-    let irq : false ≡ (not d.scheduled && bytes_eq first (codes "irq")) = rw n.4 (sym (and_false (not d.scheduled))) in
-    let schedule : d.scheduled ≡ (d.scheduled || bytes_eq first (codes "schedule")) = rw n.5 (or_none d.scheduled) in
+    let irq : false ≡ (not d.scheduled && bytes_eq first (codes "irq")) = rw n.4 (sym (and-false (not d.scheduled))) in
+    let schedule : d.scheduled ≡ (d.scheduled || bytes_eq first (codes "schedule")) = rw n.5 (sym (or-false d.scheduled)) in
     let more : Knows d (file ++ (first, two.1) ∷ []) =
     knows_more d d first two.1 false false false false false
-    (sym n.0) (λ name. or_none (has_name d.threads name)) (sym n.1) (λ name. or_none (has_name d.queues name)) (sym n.2)
-    (λ name. or_none (has_name d.dfcs name)) (sym n.3) (λ name. or_none (has_name d.idfcs name))
-    irq (λ k small. or_none (contains nat_cmp d.irqs k)) schedule file knows in
-    let same : file_declares (line ∷ []) ≡ (first, two.1) ∷ [] = line_some line two told ∙ ap (λ (f : List ℕ). (f, two.1) ∷ []) (two_begin first words) in
+    (sym n.0) (λ name. sym (or-false (has_name d.threads name))) (sym n.1) (λ name. sym (or-false (has_name d.queues name))) (sym n.2)
+    (λ name. sym (or-false (has_name d.dfcs name))) (sym n.3) (λ name. sym (or-false (has_name d.idfcs name)))
+    irq (λ k small. sym (or-false (contains nat_cmp d.irqs k))) schedule file knows in
+    let same : file_declares (line ∷ []) ≡ (first, two.1) ∷ [] = line_some line two told ∙ ap (λ (f : List ℕ). (f, two.1) ∷ []) (two_first first words) in
     subst (λ (more : List Declared). Knows d (file ++ more)) (sym same) more
 
 -- a line that begins with a byte with which no word begins that declares something

@@ -141,9 +141,8 @@ words_pass c k words h = forms_pass c k words (all_pass (word_tests c k words) h
 
 -- words in order with their number have the reason of what is wrong with them
 fault_reason : (form range : Bool) → reason_of_fault (fault_by form range) ≡ refused ((form, reason.Form) ∷ (range, reason.Range) ∷ [])
-fault_reason false range = refl
 fault_reason true false = refl
-fault_reason true true = refl
+fault_reason _ _ = refl
 
 pub words_reason : (c : Context) (k : Keyword) (words : List (List ℕ))
     → is_in_order c (keyword_kind (is_scheduled c) k) ≡ true → is_counted (is_scheduled c) k words ≡ true

@@ -15,25 +15,19 @@ use Rattle.script_words.specs.Fields.{number_of}
 use Rattle.script_read.specs.FileNames.{has_name}
 use Rattle.script_words.proofs.Numbers.{number_takes, number_again}
 use Rattle.script_words.proofs.Steps.{some_is, same_bytes}
+use Rattle.std.proofs.Math.Bool.{or-true, or-false}
 
 -- the order of names
 abbrev pub by_bytes : Bor (List ℕ) → Bor (List ℕ) → Ordering
 by_bytes x y = slice_cmp nat_cmp x.now y.now
 
 or_where : (b x : Bool) → cond b true x ≡ (x || b)
-or_where true true = refl
-or_where true false = refl
-or_where false true = refl
-or_where false false = refl
-
-pub or_none : (x : Bool) → x ≡ (x || false)
-or_none true = refl
-or_none false = refl
+or_where true x = sym (or-true x)
+or_where false x = sym (or-false x)
 
 or_nothing : (x test : Bool) → x ≡ (x || (test && false))
-or_nothing true test = refl
 or_nothing false true = refl
-or_nothing false false = refl
+or_nothing _ _ = refl
 
 -- tests that pass together are equal
 same_tests : (a b : Bool) → (a ≡ true → b ≡ true) → (b ≡ true → a ≡ true) → a ≡ b

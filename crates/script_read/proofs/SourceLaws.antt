@@ -2,7 +2,7 @@
 use Rattle.std.proofs.Common.{◌≡◌, ℕ, Bool, true, false, List, [], ◌∷◌, map, refl, sym, subst, ap, ◌∙◌, arith, Option, Some, None, inl, inr}
 use Rattle.std.specs.List.{AllByRecursion}
 use Rattle.std.proofs.lemmas.Bool.Decides.{nat_tests}
-use Rattle.std.specs.Prelude.{◌⊎◌, nat_le, not}
+use Rattle.std.specs.Prelude.{◌⊎◌, nat_le}
 use Rattle.std.specs.Str.{bytes_eq}
 use Rattle.script_read.specs.FirstBad.{HasNone, Make, IsRead, IsFirstBad}
 use Rattle.script_types.specs.Keywords.{keyword_of, keyword_text, keyword_kind, keywords}
@@ -31,6 +31,7 @@ use Rattle.script_types.specs.declared.script.Script.{Script}
 use Rattle.script_types.specs.declared.source_line.LineKind.TheVariants as of
 use Rattle.script_types.specs.declared.source_line.SourceLine.{SourceLine}
 use Rattle.script_types.specs.declared.source_line.SourceLine.TheVariants as line
+use Rattle.std.proofs.lemmas.Bool.{not-false, not_from_true}
 
 keyword_takes : (word : List ℕ) (k : Keyword) → keyword_of word ≡ Some k → word ≡ keyword_text k
 unfolding keyword_of
@@ -74,10 +75,6 @@ none_by : (others : List Reason) (file : List Declared) (c : Context) (text : Li
 none_by [] file c text none = tt
 none_by (why ∷ others) file c text none = (none why, none_by others file c text none)
 
-not_not : (b : Bool) → not b ≡ false → b ≡ true
-not_not true h = refl
-not_not false h = absurd (cc)
-
 -- a text that isn't skipped and is a line that may stand here
 record IsLine (file : List Declared) (c : Context) (text : List ℕ) : Type 0 where
   line : SourceLine
@@ -93,14 +90,14 @@ line_by file c text k told e none =
     let words : List (List ℕ) = words_of text in
     let l : SourceLine = line_at s k words in
     let no = named file c text none in
-    let order : is_in_order c (keyword_kind s k) ≡ true = not_not (is_in_order c (keyword_kind s k)) (rw (told, e) at no.order) in
-    let count : is_counted s k words ≡ true = not_not (is_counted s k words) (rw (told, e) at no.count) in
-    let forms : have_forms s k words ≡ true = not_not (have_forms s k words) (rw (told, e) at no.form) in
-    let ranges : are_in_range s k words ≡ true = not_not (are_in_range s k words) (rw (told, e) at no.range) in
-    let right : is_right_kind c l ≡ true = not_not (is_right_kind c l) (rw (told, e) at no.kind) in
-    let new : is_new c l ≡ true = not_not (is_new c l) (rw (told, e) at no.twice) in
-    let known : is_known file c l ≡ true = not_not (is_known file c l) (rw (told, e) at no.unknown) in
-    let within : is_within c l ≡ true = not_not (is_within c l) (rw (told, e) at no.limit) in
+    let order : is_in_order c (keyword_kind s k) ≡ true = not-false (is_in_order c (keyword_kind s k)) (rw (told, e) at no.order) in
+    let count : is_counted s k words ≡ true = not-false (is_counted s k words) (rw (told, e) at no.count) in
+    let forms : have_forms s k words ≡ true = not-false (have_forms s k words) (rw (told, e) at no.form) in
+    let ranges : are_in_range s k words ≡ true = not-false (are_in_range s k words) (rw (told, e) at no.range) in
+    let right : is_right_kind c l ≡ true = not-false (is_right_kind c l) (rw (told, e) at no.kind) in
+    let new : is_new c l ≡ true = not-false (is_new c l) (rw (told, e) at no.twice) in
+    let known : is_known file c l ≡ true = not-false (is_known file c l) (rw (told, e) at no.unknown) in
+    let within : is_within c l ≡ true = not-false (is_within c l) (rw (told, e) at no.limit) in
     let t = takes s k words count (keyword_takes (word_at words 0) k e) forms ranges in
     record {
       line = l;
@@ -119,8 +116,8 @@ line_of_text file c text (Some k) e told none = line_by file c text k told e non
 
 clean_text : (file : List Declared) (c : Context) (text : List ℕ) → HasNone reasons file c text → IsClean text
 clean_text file c text none = record {
-  printed = not_not (is_printed text) (named file c text none).byte;
-  short = not_not (is_short text) (named file c text none).long;
+  printed = not-false (is_printed text) (named file c text none).byte;
+  short = not-false (is_short text) (named file c text none).long;
 }
 
 -- the lines of texts
@@ -178,14 +175,11 @@ read_is_accepted bytes script r =
       same = r.same ∙ ap (λ (c : Context). c.script) (sym h.makes);
     }
 
-off : (b : Bool) → b ≡ true → not b ≡ false
-off b h = rw h refl
-
 -- a skipped text has no reason
 skipped_has : (file : List Declared) (c : Context) (text : List ℕ) → IsClean text → is_skipped (words_of text) ≡ true
     → (why : Reason) → has why file c text ≡ false
-skipped_has file c text clean h reason.Byte = off (is_printed text) clean.printed
-skipped_has file c text clean h reason.Long = off (is_short text) clean.short
+skipped_has file c text clean h reason.Byte = not_from_true (is_printed text) clean.printed
+skipped_has file c text clean h reason.Long = not_from_true (is_short text) clean.short
 skipped_has file c text clean h reason.End = refl
 skipped_has file c text clean h _ = rw h refl
 
@@ -213,9 +207,7 @@ kind_here c (line.Instr what) h = instr_here (is_scheduled c) what
 kind_here c (line.IrqBody k body) h = ap (λ (s : Bool). keyword_kind s key.Irq) (body_before c.rank c.awaits_thread h)
 kind_here c (line.IrqSlot k) h = ap (λ (s : Bool). keyword_kind s key.Irq) (slot_behind c.rank c.awaits_thread h)
 kind_here c (line.KernelThread name p true) h = refl
-kind_here c (line.KernelThread name p false) h = refl
 kind_here c (line.Thread name p true) h = refl
-kind_here c (line.Thread name p false) h = refl
 kind_here c _ h = refl
 
 -- a line that may stand here has no reason
@@ -237,17 +229,17 @@ record PassEach (file : List Declared) (c : Context) (k : Keyword) (words : List
 good_has : (file : List Declared) (c : Context) (text : List ℕ) (k : Keyword) → IsClean text
     → is_skipped (words_of text) ≡ false → keyword_in (words_of text) ≡ Some k → PassEach file c k (words_of text)
     → (why : Reason) → has why file c text ≡ false
-good_has file c text k clean told e pass reason.Byte = off (is_printed text) clean.printed
-good_has file c text k clean told e pass reason.Long = off (is_short text) clean.short
+good_has file c text k clean told e pass reason.Byte = not_from_true (is_printed text) clean.printed
+good_has file c text k clean told e pass reason.Long = not_from_true (is_short text) clean.short
 good_has file c text k clean told e pass reason.Word = rw (told, e) refl
-good_has file c text k clean told e pass reason.Order = rw (told, e) (off _ pass.order)
-good_has file c text k clean told e pass reason.Count = rw (told, e) (off _ pass.count)
-good_has file c text k clean told e pass reason.Form = rw (told, e) (off _ pass.form)
-good_has file c text k clean told e pass reason.Range = rw (told, e) (off _ pass.range)
-good_has file c text k clean told e pass reason.Kind = rw (told, e) (off _ pass.kind)
-good_has file c text k clean told e pass reason.Twice = rw (told, e) (off _ pass.twice)
-good_has file c text k clean told e pass reason.Unknown = rw (told, e) (off _ pass.unknown)
-good_has file c text k clean told e pass reason.Limit = rw (told, e) (off _ pass.limit)
+good_has file c text k clean told e pass reason.Order = rw (told, e) (not_from_true _ pass.order)
+good_has file c text k clean told e pass reason.Count = rw (told, e) (not_from_true _ pass.count)
+good_has file c text k clean told e pass reason.Form = rw (told, e) (not_from_true _ pass.form)
+good_has file c text k clean told e pass reason.Range = rw (told, e) (not_from_true _ pass.range)
+good_has file c text k clean told e pass reason.Kind = rw (told, e) (not_from_true _ pass.kind)
+good_has file c text k clean told e pass reason.Twice = rw (told, e) (not_from_true _ pass.twice)
+good_has file c text k clean told e pass reason.Unknown = rw (told, e) (not_from_true _ pass.unknown)
+good_has file c text k clean told e pass reason.Limit = rw (told, e) (not_from_true _ pass.limit)
 good_has file c text k clean told e pass reason.End = refl
 
 line_good : (file : List Declared) (c : Context) (text : List ℕ) (l : SourceLine) → IsClean text

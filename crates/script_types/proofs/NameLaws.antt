@@ -1,6 +1,6 @@
 -- In every well-formed script the names resolve.
 use Rattle.std.proofs.Common.{◌≡◌, ◌⊎◌, inl, inr, ℕ, ◌<◌, ◌≤◌, ◌^◌, Bool, true, false, List, [], ◌∷◌, ◌++◌, map, replicate, length, zero, suc, sym, ap, subst, ◌∙◌, refl, arith, Option, Some, None}
-use Rattle.std.proofs.lemmas.Bool.{leb-true}
+use Rattle.std.proofs.lemmas.Bool.{leb-true, or_right, or_parts}
 use Rattle.std.proofs.lemmas.Bool.Decides.{nat_tests}
 use Rattle.std.proofs.lemmas.Fmt.{decimal_injective}
 use Rattle.std.proofs.lemmas.Slice.Eq.{bytes_eq-Decides}
@@ -39,20 +39,16 @@ use Rattle.script_types.proofs.LimitLaws.{IsSound, both, or_true, in_form, numbe
 abbrev twos : List SourceLine → List Declared
 twos lines = map first_two (map source_words lines)
 
-or_later : (a b : Bool) → b ≡ true → (a || b) ≡ true
-or_later true b h = refl
-or_later false b h = h
-
 any_more : {A : Type 0} (test : A → Bool) (xs ys : List A) → list_any test xs ≡ true → list_any test (xs ++ ys) ≡ true
 any_more test [] ys h = absurd (cc)
 any_more test (x ∷ xs) ys h =
     elim (or_true (test x) (list_any test xs) h) as
     (λ _. (test x || list_any test (xs ++ ys)) ≡ true)
-    [ inl e ↦ (rw e refl) | inr e ↦ or_later (test x) (list_any test (xs ++ ys)) (any_more test xs ys e) ]
+    [ inl e ↦ (rw e refl) | inr e ↦ or_right (test x) (list_any test (xs ++ ys)) (any_more test xs ys e) ]
 
 any_last : {A : Type 0} (test : A → Bool) (xs : List A) (x : A) → test x ≡ true → list_any test (xs ++ x ∷ []) ≡ true
 any_last test [] x h = rw h refl
-any_last test (y ∷ ys) x h = or_later (test y) (list_any test (ys ++ x ∷ [])) (any_last test ys x h)
+any_last test (y ∷ ys) x h = or_right (test y) (list_any test (ys ++ x ∷ [])) (any_last test ys x h)
 
 turned : (a b : List ℕ) → bytes_eq a b ≡ true → bytes_eq b a ≡ true
 turned a b h = (bytes_eq-Decides b a).1 (sym ((bytes_eq-Decides a b).0 h))
@@ -88,11 +84,7 @@ unfolding word_text
 instr_sort instr.Enter = refl
 instr_sort _ = refl
 
-or_false : (a b : Bool) → (a || b) ≡ false → (a ≡ false) × (b ≡ false)
-or_false true b h = absurd (cc)
-or_false false b h = (refl, h)
-
-two_first : (first : List ℕ) (words : List (List ℕ)) → (first_two (first ∷ words)).0 ≡ first
+pub two_first : (first : List ℕ) (words : List (List ℕ)) → (first_two (first ∷ words)).0 ≡ first
 two_first first [] = refl
 two_first first (second ∷ words) = refl
 
@@ -102,7 +94,7 @@ AllOff test (word ∷ words) = (test word ≡ false) × AllOff test words
 
 any_off : (test : List ℕ → Bool) (words : List (List ℕ)) → list_any test words ≡ false → AllOff test words
 any_off test [] h = tt
-any_off test (word ∷ words) h = let parts = or_false (test word) (list_any test words) h in (parts.0, any_off test words parts.1)
+any_off test (word ∷ words) h = let parts = or_parts (test word) (list_any test words) h in (parts.0, any_off test words parts.1)
 
 not_told : (sort name : List ℕ) (what : Instr)
     → bytes_eq (keyword_text (form_of (line.Instr what)).keyword) sort ≡ false
@@ -151,9 +143,7 @@ queue-adds : (c : Context) (l : SourceLine) (name : List ℕ)
 queue-adds c (line.Queue n p) name h = any_last (λ (d : QueueDecl). bytes_eq name d.name) c.script.queues _ (turned n name h)
 queue-adds c (line.Instr what) name h = absurd (not_told (codes "dfcq") name what (no_dfcq what) h)
 queue-adds c (line.KernelThread n p true) name h = absurd (cc)
-queue-adds c (line.KernelThread n p false) name h = absurd (cc)
 queue-adds c (line.Thread n p true) name h = absurd (cc)
-queue-adds c (line.Thread n p false) name h = absurd (cc)
 queue-adds c _ name h = absurd (cc)
 
 dfc-grows : (c : Context) (l : SourceLine) (name : List ℕ) → has_dfc c.script name ≡ true → has_dfc (after c l).script name ≡ true
@@ -165,9 +155,7 @@ dfc-adds : (c : Context) (l : SourceLine) (name : List ℕ)
 dfc-adds c (line.Dfc n queue p ops) name h = any_last (λ (d : DfcDecl). bytes_eq name d.name) c.script.dfcs _ (turned n name h)
 dfc-adds c (line.Instr what) name h = absurd (not_told (codes "dfc") name what (no_dfc what) h)
 dfc-adds c (line.KernelThread n p true) name h = absurd (cc)
-dfc-adds c (line.KernelThread n p false) name h = absurd (cc)
 dfc-adds c (line.Thread n p true) name h = absurd (cc)
-dfc-adds c (line.Thread n p false) name h = absurd (cc)
 dfc-adds c _ name h = absurd (cc)
 
 idfc-grows : (c : Context) (l : SourceLine) (name : List ℕ) → has_idfc c.script name ≡ true → has_idfc (after c l).script name ≡ true
@@ -179,9 +167,7 @@ idfc-adds : (c : Context) (l : SourceLine) (name : List ℕ)
 idfc-adds c (line.Idfc n ops) name h = any_last (λ (d : IdfcDecl). bytes_eq name d.name) c.script.idfcs _ (turned n name h)
 idfc-adds c (line.Instr what) name h = absurd (not_told (codes "idfc") name what (no_idfc what) h)
 idfc-adds c (line.KernelThread n p true) name h = absurd (cc)
-idfc-adds c (line.KernelThread n p false) name h = absurd (cc)
 idfc-adds c (line.Thread n p true) name h = absurd (cc)
-idfc-adds c (line.Thread n p false) name h = absurd (cc)
 idfc-adds c _ name h = absurd (cc)
 
 thread-grows : (c : Context) (l : SourceLine) (name : List ℕ) → has_thread c.script name ≡ true → has_thread (after c l).script name ≡ true
@@ -196,7 +182,6 @@ thread-adds c (line.Thread n p true) name h = any_last (λ (d : ThreadDecl). byt
 thread-adds c (line.Thread n p false) name h = any_last (λ (d : ThreadDecl). bytes_eq name d.name) c.script.threads _ (turned n name h)
 thread-adds c (line.Instr what) name h = absurd (not_told (codes "thread") name what (no_thread what) h)
 thread-adds c (line.KernelThread n p true) name h = absurd (cc)
-thread-adds c (line.KernelThread n p false) name h = absurd (cc)
 thread-adds c _ name h = absurd (cc)
 
 kthread-adds : (c : Context) (l : SourceLine) (name : List ℕ)
@@ -205,7 +190,6 @@ kthread-adds c (line.KernelThread n p true) name h = any_last (λ (d : ThreadDec
 kthread-adds c (line.KernelThread n p false) name h = any_last (λ (d : ThreadDecl). bytes_eq name d.name) c.script.threads _ (turned n name h)
 kthread-adds c (line.Instr what) name h = absurd (not_told (codes "kthread") name what (no_kthread what) h)
 kthread-adds c (line.Thread n p true) name h = absurd (cc)
-kthread-adds c (line.Thread n p false) name h = absurd (cc)
 kthread-adds c _ name h = absurd (cc)
 
 queue_tells : Tells (codes "dfcq") has_queue
@@ -415,7 +399,8 @@ known-all file c [] stand s n = n
 known-all file c (l ∷ ls) stand s n = known-all file (after c l) ls stand.1 (sound-after file c l stand.0 s) (known-after file c l stand.0 s n)
 
 -- what is known is declared in the script
-all_as : {A : Type 0} (test other : A → Bool) → ((x : A) → test x ≡ true → other x ≡ true) → (xs : List A) → list_all test xs ≡ true → list_all other xs ≡ true
+pub all_as : {A : Type 0} (test other : A → Bool) → ((x : A) → test x ≡ true → other x ≡ true) → (xs : List A)
+    → list_all test xs ≡ true → list_all other xs ≡ true
 all_as test other go [] h = refl
 all_as test other go (x ∷ xs) h = let parts = both (test x) (list_all test xs) h in rw (go x parts.0, all_as test other go xs parts.1) refl
 
@@ -430,7 +415,7 @@ module _ (lines : List SourceLine) (stand : AllStand (twos lines) start lines) w
   queue_is : (name : List ℕ) → queue_known (twos lines) name ≡ true → is_queue made name ≡ true
   queue_is name h = elim (or_true (bytes_eq name (codes "supervisor")) (is_declared (twos lines) (codes "dfcq") name) h) as (λ _. is_queue made name ≡ true) [
     | inl e ↦ (rw e refl)
-    | inr e ↦ or_later (bytes_eq name (codes "supervisor")) (has_queue made name) (queue_there name e)
+    | inr e ↦ or_right (bytes_eq name (codes "supervisor")) (has_queue made name) (queue_there name e)
   ]
 
   or_first : (a b : Bool) → a ≡ true → (a || b) ≡ true
@@ -453,7 +438,7 @@ module _ (lines : List SourceLine) (stand : AllStand (twos lines) start lines) w
             or_first (has_thread made name) (has_queue made name)
             (thread_told name (or_true (is_declared (twos lines) (codes "thread") name)
             (is_declared (twos lines) (codes "kthread") name) e))
-        | inr e ↦ or_later (has_thread made name) (has_queue made name) (queue_there name e)
+        | inr e ↦ or_right (has_thread made name) (has_queue made name) (queue_there name e)
       ]
 
   dfc_is : (name : List ℕ) → is_declared (twos lines) (codes "dfc") name ≡ true → has_dfc made name ≡ true

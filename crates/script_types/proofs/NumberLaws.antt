@@ -1,6 +1,6 @@
 -- In every well-formed script the numbers are in their ranges.
 use Rattle.std.proofs.Common.{◌≡◌, ℕ, ◌≤◌, Bool, true, false, List, [], ◌∷◌, ◌++◌, replicate, zero, suc, sym, subst, refl, arith, Option, Some, None}
-use Rattle.std.proofs.lemmas.Bool.{leb-true, le-leb}
+use Rattle.std.proofs.lemmas.Bool.{leb-true, le-leb, and_from}
 use Rattle.std.specs.List.{list_all}
 use Rattle.std.specs.Prelude.{◌&&◌, nat_le, IsTrue}
 use Rattle.script_types.specs.Context.{start, after, after_all, with_instr}
@@ -49,9 +49,6 @@ priorities_stay (t ∷ u ∷ ts) what all =
 small : (low high n : ℕ) → (nat_le low n && nat_le n high) ≡ true → nat_le n high ≡ true
 small low high n h = (both (nat_le low n) (nat_le n high) h).1
 
-two : (a b : Bool) → a ≡ true → b ≡ true → (a && b) ≡ true
-two a b h e = rw (h, e) refl
-
 numbers-after : (file : List Declared) (c : Context) (l : SourceLine) → Stands file c l → AreNumbersInRange c.script → AreNumbersInRange (after c l).script
 numbers-after file c (line.Pool k) h n =
     let v = in_form (form_of (line.Pool k)) h.ranges in
@@ -97,7 +94,7 @@ numbers-after file c (line.Dfc name queue p ops) h n =
       queues = n.queues;
       dfcs =
           all_push (λ (d : DfcDecl). nat_le d.priority 7 && is_body (Some body.Call) d.body) c.script.dfcs _ n.dfcs
-          (two (nat_le p 7) (is_body (Some body.Call) ops) (small 0 7 p v.0.1.1.0) v.1);
+          (and_from (nat_le p 7) (is_body (Some body.Call) ops) (small 0 7 p v.0.1.1.0) v.1);
       idfcs = n.idfcs;
       irqs = n.irqs;
       threads = n.threads;
@@ -125,7 +122,7 @@ numbers-after file c (line.IrqBody k ops) h n =
       idfcs = n.idfcs;
       irqs =
           all_push (λ (i : IrqBody). nat_le i.number 31 && is_body (Some body.Interrupt) i.body) c.script.irqs _ n.irqs
-          (two (nat_le k 31) (is_body (Some body.Interrupt) ops) (small 0 31 k v.0.0) v.1);
+          (and_from (nat_le k 31) (is_body (Some body.Interrupt) ops) (small 0 31 k v.0.0) v.1);
       threads = n.threads;
       instrs = n.instrs;
     }

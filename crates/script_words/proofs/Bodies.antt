@@ -8,6 +8,7 @@ use Rattle.script_words.specs.LineSigns.{operations}
 use Rattle.script_words.specs.Pieces.{pieces}
 use Rattle.script_words.proofs.Steps.{by_test}
 use Rattle.script_types.specs.SourceText.{in_first}
+use Rattle.std.proofs.Math.Bool.{and-true}
 
 -- a word stands between two operations, and the parts between those words
 abbrev pub ends : Bor (List ℕ) → Bool
@@ -67,14 +68,10 @@ and_again : (b c d : Bool) → (b && (c && d)) ≡ ((b && c) && d)
 and_again true c d = refl
 and_again false c d = refl
 
-and_true : (b : Bool) → (b && true) ≡ b
-and_true true = refl
-and_true false = refl
-
 pub one_more_passes : {A : Type 0} (test : A → Bool) (parts : List A) (n : ℕ) (part : A) → n < length parts
     → part ≡ get_or parts n part → list_all test (take (suc n) parts) ≡ (list_all test (take n parts) && test part)
 one_more_passes test [] n part within is = absurd (omega arith)
-one_more_passes test (p ∷ ps) zero part within is = and_true (test p) ∙ ap test (sym is)
+one_more_passes test (p ∷ ps) zero part within is = and-true (test p) ∙ ap test (sym is)
 one_more_passes test (p ∷ ps) (suc n) part within is =
     let later = one_more_passes test ps n part (omega arith) is in
     rw later (and_again (test p) (list_all test (take n ps)) (test part))

@@ -53,12 +53,9 @@ instr_small false word.Create = refl
 instr_small second _ = refl
 
 form_small : (second : Bool) (k : Keyword) → list_all is_small (operands_of k second) ≡ true
-form_small second (key.Instr w) = instr_small second w
-form_small true key.Kthread = refl
-form_small false key.Kthread = refl
-form_small true key.Thread = refl
-form_small false key.Thread = refl
-form_small second _ = refl
+form_small true (key.Instr w) = instr_small true w
+form_small false (key.Instr w) = instr_small false w
+form_small _ _ = refl
 
 -- the table and its inverse: the words of the line of a form, its range, and its kind
 kept : Option BodyKind → List Op → List Op
@@ -76,14 +73,9 @@ form_words : (second : Bool) (k : Keyword) (values : Values (operands_of k secon
     → source_words (line_of k second values ops)
     ≡ keyword_text k ∷ (value_words (operands_of k second) values ++ body_words (kept (body_of k second) ops))
 unfolding kept
-form_words second (key.Instr w) values ops = instr_words second w values
-form_words true key.Kthread values ops = refl
-form_words false key.Kthread values ops = refl
-form_words true key.Thread values ops = refl
-form_words false key.Thread values ops = refl
-form_words true key.Irq values ops = refl
-form_words false key.Irq values ops = refl
-form_words second _ values ops = refl
+form_words true (key.Instr w) values ops = instr_words true w values
+form_words false (key.Instr w) values ops = instr_words false w values
+form_words _ _ values ops = refl
 
 instr_range : (second : Bool) (w : Word) (values : Values (instr_operands w second))
     → is_source_line (line.Instr (instr_of w second values)) ≡ (are_values (instr_operands w second) values && true)
@@ -95,24 +87,15 @@ form_range : (second : Bool) (k : Keyword) (values : Values (operands_of k secon
     → is_source_line (line_of k second values ops)
     ≡ (are_values (operands_of k second) values && is_body (body_of k second) (kept (body_of k second) ops))
 unfolding kept
-form_range second (key.Instr w) values ops = instr_range second w values
-form_range true key.Kthread values ops = refl
-form_range false key.Kthread values ops = refl
-form_range true key.Thread values ops = refl
-form_range false key.Thread values ops = refl
-form_range true key.Irq values ops = refl
-form_range false key.Irq values ops = refl
-form_range second _ values ops = refl
+form_range true (key.Instr w) values ops = instr_range true w values
+form_range false (key.Instr w) values ops = instr_range false w values
+form_range _ _ values ops = refl
 
 form_kind : (second : Bool) (k : Keyword) (values : Values (operands_of k second)) (ops : List Op)
     → kind_of (line_of k second values ops) ≡ keyword_kind second k
 form_kind true key.Kthread values ops = refl
 form_kind false key.Kthread values ops = refl
-form_kind true key.Thread values ops = refl
-form_kind false key.Thread values ops = refl
-form_kind true key.Irq values ops = refl
-form_kind false key.Irq values ops = refl
-form_kind second _ values ops = refl
+form_kind _ _ values ops = refl
 
 second_kind : (scheduled : Bool) (k : Keyword) (words : List (List ℕ)) → keyword_kind (second_of scheduled k words) k ≡ keyword_kind scheduled k
 second_kind scheduled key.Eka2 words = refl
@@ -132,10 +115,7 @@ instr_back _ = refl
 form_back : (l : SourceLine) → line_of (form_of l).keyword (form_of l).second (form_of l).values (form_of l).body ≡ l
 form_back (line.Instr what) = instr_back what
 form_back (line.KernelThread name p true) = refl
-form_back (line.KernelThread name p false) = refl
 form_back (line.Thread name p true) = refl
-form_back (line.Thread name p false) = refl
-form_back (line.Header version) = refl
 form_back _ = refl
 
 -- words that have their forms and ranges
@@ -234,7 +214,7 @@ takes scheduled k words count first forms ranges =
     }
 
 -- the words of operands in range
-values_size : (operands : List Operand) (values : Values operands) → length (value_words operands values) ≡ length operands
+pub values_size : (operands : List Operand) (values : Values operands) → length (value_words operands values) ≡ length operands
 values_size [] values = refl
 values_size (what ∷ operands) values = ap suc (values_size operands values.1)
 
@@ -279,23 +259,16 @@ instr_second scheduled _ = refl
 
 second_again : (scheduled : Bool) (l : SourceLine) → keyword_kind scheduled (form_of l).keyword ≡ kind_of l
     → second_of scheduled (form_of l).keyword (source_words l) ≡ (form_of l).second
-second_again scheduled (line.Instr what) e = instr_second scheduled what
 second_again true (line.IrqBody k body) e = absurd (cc)
-second_again false (line.IrqBody k body) e = refl
-second_again true (line.IrqSlot k) e = refl
 second_again false (line.IrqSlot k) e = absurd (cc)
 second_again scheduled (line.KernelThread name p true) e = refl
-second_again scheduled (line.KernelThread name p false) e = refl
 second_again scheduled (line.Thread name p true) e = refl
-second_again scheduled (line.Thread name p false) e = refl
-second_again scheduled _ e = refl
+second_again scheduled (line.Instr what) e = instr_second scheduled what
+second_again _ _ e = refl
 
 op_some : (what : Op) (rest : List (List ℕ)) → 1 ≤ length (op_words what ++ rest)
 op_some (op.Idfc name) rest = omega arith
-op_some (op.Dfc name) rest = omega arith
-op_some (op.Fssignal name) rest = omega arith
-op_some (op.Device x code) rest = omega arith
-op_some (op.Queue name) rest = omega arith
+op_some _ rest = omega arith
 
 same_size : (n : ℕ) → (n == n) ≡ true
 same_size n = grind (arith, nat_tests)

@@ -13,10 +13,7 @@ use Rattle.std.specs.Str.{all_ascii_digits}
 use Rattle.std.specs.Str.Parse.{digits_value}
 use Rattle.script_words.specs.Fields.{is_number, number_of}
 use Rattle.script_words.proofs.Steps.{both, guard_some}
-
-or_true : (b : Bool) → (b || true) ≡ true
-or_true true = refl
-or_true false = refl
+use Rattle.std.proofs.Math.Bool.{and-false, or-true}
 
 same_digits : (ds : List ℕ) → list_all is_ascii_digit ds ≡ all_ascii_digits ds
 same_digits [] = refl
@@ -50,7 +47,7 @@ no_leading_zero zero small = rw (decimal_digit 0 (omega arith)) refl
 no_leading_zero (suc n) small =
     let first = first_decimal (suc n) (omega arith) small in
     let other : eqb (get_or (decimal (suc n)) 0 0) 48 ≡ false = grind (arith, nat_tests) in
-    rw other (or_true (length (decimal (suc n)) == 1))
+    rw other (or-true (length (decimal (suc n)) == 1))
 
 -- a number's digits are read
 pub number_again : (max n : ℕ) → max < 2 ^ 32 → n ≤ max → number_of max (decimal n) ≡ Some n
@@ -103,10 +100,6 @@ none_within max digits true true e f h = absurd (cc)
 none_within max digits true false e f h = rw (e, f) refl
 none_within max digits false b e f h = rw e refl
 
-and_off : (a : Bool) → (a && false) ≡ false
-and_off true = refl
-and_off false = refl
-
 none_by : (max : ℕ) (digits : List ℕ) (i number : ℕ) (digit fits : Bool) → IsDigitsSo max digits i number
     → i < length digits → is_ascii_digit (get_or digits i 0) ≡ digit
     → nat_le (number * 10 + (get_or digits i 0 - 48)) max ≡ fits
@@ -120,7 +113,7 @@ none_by max digits i number true false so within d f h =
     let more = digit_more digits i within d in
     let rest = digits_value-take-le 10 digits (i + 1) (omega arith) in
     let great : nat_le (digits_value 10 digits) max ≡ false = grind (arith, nat_tests) in
-    rw (great, and_off (list_all is_ascii_digit digits)) refl
+    rw (great, and-false (list_all is_ascii_digit digits)) refl
 none_by max digits i number true true so within d f h = absurd (cc)
 
 pub digits_none : (max : ℕ) (digits : List ℕ) (i number d : ℕ) → IsDigitsSo max digits i number → i < length digits

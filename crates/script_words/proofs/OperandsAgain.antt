@@ -1,7 +1,7 @@
 -- Each kind of operand: a word that has its form and its range is the word of an operand in range, and the word of
 -- an operand in range has the form and the range, and is that operand.
 use Rattle.std.proofs.Common.{◌≡◌, ℕ, ℤ, pos, negsuc, zero, suc, ◌<◌, ◌≤◌, ◌^◌, Bool, true, false, List, [], ◌∷◌, ◌++◌, append_assoc, length, refl, sym, subst, ap, ◌∙◌, arith}
-use Rattle.std.proofs.lemmas.Bool.{leb-true, le-leb, ltb-true}
+use Rattle.std.proofs.lemmas.Bool.{leb-true, le-leb, ltb-true, and_from}
 use Rattle.std.proofs.lemmas.Bool.Decides.{nat_tests}
 use Rattle.std.proofs.lemmas.Fmt.{decimal_digit}
 use Rattle.std.specs.Char.{is_ascii_digit}
@@ -34,9 +34,6 @@ is_small _ = true
 small : (n : ℕ) → nat_lt n 4294967296 ≡ true → n < 2 ^ 32
 small n h = let lt = ltb-true n 4294967296 h in omega arith
 
-both_so : (a b : Bool) → a ≡ true → b ≡ true → (a && b) ≡ true
-both_so a b h e = rw (h, e) refl
-
 pub or_right : (a b : Bool) → a ≡ false → (a || b) ≡ true → b ≡ true
 or_right true b e h = absurd (cc)
 or_right false b e h = h
@@ -59,7 +56,7 @@ number_taken low high word fits h =
     record {
       same = t.0;
       range =
-          both_so (nat_le low (natural word)) (nat_le (natural word) high) (le-leb low (natural word) t.1)
+          and_from (nat_le low (natural word)) (nat_le (natural word) high) (le-leb low (natural word) t.1)
           (le-leb (natural word) high t.2);
     }
 
@@ -147,7 +144,7 @@ signed_again low high (negsuc n) fits small h =
     let number = natural_is_number 1 (suc low) (decimal (suc n)) a.0 in
     record {
       form =
-          both_so (is_number (decimal (suc n))) (not (bytes_eq (decimal (suc n)) (codes "0"))) number (not_zero n a.1);
+          and_from (is_number (decimal (suc n))) (not (bytes_eq (decimal (suc n)) (codes "0"))) number (not_zero n a.1);
       range = a.0;
       value = ap (λ (m : ℕ). neg_ℤ (pos m)) a.1;
     }
@@ -269,7 +266,7 @@ signed_clear (c ∷ digits) h =
     (λ e. number_clear (c ∷ digits) (rw e at h))
 
 sized : (n : ℕ) → is_size n ≡ true → NumberAgain 0 1024 n
-sized n h = number_again 0 1024 n (omega arith) (both_so (nat_le 0 n) (nat_le n 1024) (le-leb 0 n (omega arith)) h)
+sized n h = number_again 0 1024 n (omega arith) (and_from (nat_le 0 n) (nat_le n 1024) (le-leb 0 n (omega arith)) h)
 
 arg_again : (a : Arg) → is_arg a ≡ true → Again operand.Argument a
 arg_again (arg.Number z) h =
@@ -327,8 +324,6 @@ again (operand.Lettered letter last) n fits h =
 again operand.Name name fits h = record { form = h; range = refl; value = refl }
 again operand.Category name fits h = record { form = h; range = refl; value = refl }
 again operand.Kind what fits h = kind_again what h
-again operand.Mutex n fits h = record { form = refl; range = refl; value = refl }
-again operand.Semaphore n fits h = record { form = refl; range = refl; value = refl }
-again operand.Held n fits h = record { form = refl; range = refl; value = refl }
 again operand.Slots s fits h = slots_again s h
 again operand.Argument a fits h = arg_again a h
+again _ n fits h = record { form = refl; range = refl; value = refl }

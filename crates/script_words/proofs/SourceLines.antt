@@ -7,6 +7,7 @@ use Rattle.script_words.specs.Fields.{cut_of}
 use Rattle.script_words.specs.Pieces.{one_word}
 use Rattle.script_words.proofs.Steps.{map_some}
 use Rattle.script_types.specs.SourceText.{split, in_first, without_empty_end, text_lines, words_of, is_empty}
+use Rattle.script_words.proofs.Splits.{in_first_some}
 
 -- bytes of which the first is where they are cut, or not
 abbrev cut_by : ℕ → List ℕ → Option (List ℕ × List ℕ) → Bool → Option (List ℕ × List ℕ)
@@ -49,10 +50,6 @@ split_alone at (b ∷ bs) h =
     rw (s.0, split_alone at bs none) refl
 
 -- an end that is empty goes only behind the last part
-in_first_some : {A : Type 0} (x : A) (parts : List (List A)) → in_first x parts ≡ [] → ⊥
-in_first_some x [] h = cc
-in_first_some x (p ∷ ps) h = cc
-
 some_step : (parts : List (List ℕ)) (b : ℕ) (test : Bool) → (if test then [] ∷ parts else in_first b parts) ≡ [] → ⊥
 some_step parts b true h = cc
 some_step parts b false h = in_first_some b parts h

@@ -38,7 +38,7 @@ front_joined x y [] = refl
 front_joined x y (part ∷ []) = refl
 front_joined x y (part ∷ next ∷ parts) = refl
 
-in_first_some : {A : Type 0} (x : A) (parts : List (List A)) → in_first x parts ≡ [] → ⊥
+pub in_first_some : {A : Type 0} (x : A) (parts : List (List A)) → in_first x parts ≡ [] → ⊥
 in_first_some x [] h = cc
 in_first_some x (p ∷ ps) h = cc
 

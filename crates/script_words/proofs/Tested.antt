@@ -19,6 +19,7 @@ use Rattle.script_words.proofs.ObjectNames.{object_name_is_name}
 use Rattle.script_words.proofs.Operands.{natural_known}
 use Rattle.script_words.proofs.Steps.{both, by_test, same_bytes}
 use Rattle.sym_base.specs.NameText.{name_byte, name_of}
+use Rattle.script_words.proofs.OperandsAgain.{or_right}
 
 -- a code is a number of 32 bits
 wider : (low high more : ℕ) (word : List ℕ) → high ≤ more → is_natural low high word ≡ true → is_natural low more word ≡ true
@@ -42,10 +43,6 @@ some_name word h =
     let test : Bool = nat_le 1 (length word) && nat_le (length word) 16 && list_all name_byte word in
     by_test {P = name_of word ≡ Some word} test (λ e. rw e refl) (λ e. let none : false ≡ true = rw e at h in absurd (cc))
 
-pub right_of : (a b : Bool) → a ≡ false → (a || b) ≡ true → b ≡ true
-right_of true b e h = absurd (cc)
-right_of false b e h = h
-
 -- a word of each sign
 sign_known : (s : Operand) (word : List ℕ) → has_form s word ≡ true → is_in_range s word ≡ true → IsOf s word
 sign_known (operand.Number low high) word form range = natural_known low high word range
@@ -54,7 +51,7 @@ sign_known (operand.Lettered letter last) word form range = natural_known 0 last
 sign_known operand.Name word form range = record { text = object_name_is_name word form }
 sign_known operand.Category word form range = record { text = some_name word form }
 sign_known operand.Slots word form range = record {
-  own = λ e. natural_known 1 255 word (right_of (bytes_eq word (codes "pool")) (is_natural 1 255 word) e range);
+  own = λ e. natural_known 1 255 word (or_right (bytes_eq word (codes "pool")) (is_natural 1 255 word) e range);
 }
 sign_known operand.Argument word form range = record { parts = range }
 sign_known _ word form range = tt

@@ -19,6 +19,7 @@ use Rattle.script_types.specs.declared.keyword.Keyword.{Keyword}
 use Rattle.script_types.specs.declared.operand.BodyKind.{BodyKind}
 use Rattle.script_types.specs.declared.operand.Operand.{Operand}
 use Rattle.script_types.specs.declared.operand.Operand.TheVariants as operand
+use Rattle.std.proofs.Math.Bool.{and-true}
 
 pub right : (form range : Bool) → form ≡ true → range ≡ true → None ≡ fault_by form range
 right form range f r = rw (f, r) refl
@@ -88,24 +89,17 @@ pub argument_right : (word : List ℕ) → are_arg_parts is_number_word is_size_
 argument_right word h = right (has_form operand.Argument word) (is_in_range operand.Argument word) (argument_parts (colon_parts word) h) h
 
 -- words with a body, and without one
-and_true : (b : Bool) → (b && true) ≡ b
-and_true true = refl
-and_true false = refl
-
 pub joined : (f r form range : Bool) → both_faults (fault_by f r) (fault_by form range) ≡ fault_by (f && form) (r && range)
-joined false r form range = refl
-joined true false false range = refl
 joined true false true false = refl
-joined true false true true = refl
-joined true true form range = refl
+joined _ _ _ _ = refl
 
 pub line_without : (k : Keyword) (second : Bool) (words : List (List ℕ)) → body_of k second ≡ None
     → fault_by (each_passes has_form (operands_of k second) (drop 1 words))
     (each_passes is_in_range (operands_of k second) (drop 1 words))
     ≡ fault_by (all_pass_as has_form k second words) (all_pass_as is_in_range k second words)
 line_without k second words none =
-    let f = and_true (each_passes has_form (operands_of k second) (drop 1 words)) in
-    let r = and_true (each_passes is_in_range (operands_of k second) (drop 1 words)) in
+    let f = and-true (each_passes has_form (operands_of k second) (drop 1 words)) in
+    let r = and-true (each_passes is_in_range (operands_of k second) (drop 1 words)) in
     rw (none, f, r) refl
 
 pub line_with : (k : Keyword) (second : Bool) (words : List (List ℕ)) (kind : BodyKind) → body_of k second ≡ Some kind

@@ -39,9 +39,8 @@ words_gone test (s ∷ ss) (w ∷ ws) (suc i) some gone = words_gone test ss ws 
 -- the words behind so many
 dropped_pieces : (words : List (Bor (List ℕ))) (count : ℕ) → pieces (drop count words) ≡ drop count (pieces words)
 dropped_pieces [] zero = refl
-dropped_pieces [] (suc count) = refl
-dropped_pieces (w ∷ ws) zero = refl
 dropped_pieces (w ∷ ws) (suc count) = dropped_pieces ws count
+dropped_pieces _ _ = refl
 
 pub pieces_behind : (words : List (Bor (List ℕ))) (count : ℕ) → pieces (take (length words - count) (drop count words)) ≡ drop count (pieces words)
 pieces_behind words count = rw take_rest (dropped_pieces words count)

@@ -1,13 +1,12 @@
 -- Names stand in the order of the numbers of 128 bits that their bytes and the zeros behind them write.
-use Rattle.std.proofs.Common.{◌≡◌, ◌∙◌, ℕ, zero, suc, ◌+◌, ◌-◌, ◌*◌, ◌^◌, ◌<◌, ◌≤◌, Bool, true, List, [], ◌∷◌, ◌++◌, length, replicate, take, refl, sym, ap, arith, mul-le-mul_right, mul-pos, add-mul, one-mul, pow-suc, inl, inr}
-use Rattle.std.specs.Prelude.{IsTrue, ◌&&◌}
+use Rattle.std.proofs.Common.{◌≡◌, ◌∙◌, ℕ, zero, suc, ◌+◌, ◌-◌, ◌*◌, ◌^◌, ◌<◌, ◌≤◌, true, List, [], ◌∷◌, ◌++◌, length, replicate, take, refl, sym, ap, arith, mul-le-mul_right, add-mul, one-mul, pow-suc, inl, inr}
+use Rattle.std.specs.Prelude.{slice_index}
 use Rattle.std.specs.List.{list_all}
-use Rattle.std.specs.declared.cmp.Ordering.{Ordering}
 use Rattle.std.specs.declared.cmp.Ordering.TheVariants.{Less, Equal, Greater}
 use Rattle.std.specs.Ordering.{nat_cmp, ordering_then}
 use Rattle.std.specs.Cmp.{nat_cmp_is}
 use Rattle.std.specs.Cmp.Lexicographic.{slice_cmp}
-use Rattle.std.specs.Int.{w128, from_be_bytes}
+use Rattle.std.specs.Int.{w128, byte_worth, sum_through, from_be_bytes}
 use Rattle.std.proofs.lemmas.Bool.{cases_order, and_parts}
 use Rattle.std.proofs.lemmas.Bool.Decides.{nat_tests}
 use Rattle.std.proofs.lemmas.List.{length-append, length-replicate}
@@ -98,33 +97,28 @@ worth_padded zero n xs = refl
 worth_padded (suc k) n [] = worth_zeros (suc k) n
 worth_padded (suc k) n (x ∷ xs) = ap (λ r. x * 256 ^ k + r) (worth_padded k n xs)
 
--- the number of 16 bytes
-number_of : (bytes : List ℕ) → length bytes ≡ 16 → from_be_bytes w128 bytes ≡ worth 16 bytes
-number_of [] long = absurd (omega arith)
-number_of (a ∷ []) long = absurd (omega arith)
-number_of (a ∷ b ∷ []) long = absurd (omega arith)
-number_of (a ∷ b ∷ c ∷ []) long = absurd (omega arith)
-number_of (a ∷ b ∷ c ∷ d ∷ []) long = absurd (omega arith)
-number_of (a ∷ b ∷ c ∷ d ∷ e ∷ []) long = absurd (omega arith)
-number_of (a ∷ b ∷ c ∷ d ∷ e ∷ f ∷ []) long = absurd (omega arith)
-number_of (a ∷ b ∷ c ∷ d ∷ e ∷ f ∷ g ∷ []) long = absurd (omega arith)
-number_of (a ∷ b ∷ c ∷ d ∷ e ∷ f ∷ g ∷ h ∷ []) long = absurd (omega arith)
-number_of (a ∷ b ∷ c ∷ d ∷ e ∷ f ∷ g ∷ h ∷ i ∷ []) long = absurd (omega arith)
-number_of (a ∷ b ∷ c ∷ d ∷ e ∷ f ∷ g ∷ h ∷ i ∷ j ∷ []) long = absurd (omega arith)
-number_of (a ∷ b ∷ c ∷ d ∷ e ∷ f ∷ g ∷ h ∷ i ∷ j ∷ k ∷ []) long = absurd (omega arith)
-number_of (a ∷ b ∷ c ∷ d ∷ e ∷ f ∷ g ∷ h ∷ i ∷ j ∷ k ∷ l ∷ []) long = absurd (omega arith)
-number_of (a ∷ b ∷ c ∷ d ∷ e ∷ f ∷ g ∷ h ∷ i ∷ j ∷ k ∷ l ∷ m ∷ []) long = absurd (omega arith)
-number_of (a ∷ b ∷ c ∷ d ∷ e ∷ f ∷ g ∷ h ∷ i ∷ j ∷ k ∷ l ∷ m ∷ n ∷ []) long = absurd (omega arith)
-number_of (a ∷ b ∷ c ∷ d ∷ e ∷ f ∷ g ∷ h ∷ i ∷ j ∷ k ∷ l ∷ m ∷ n ∷ o ∷ []) long = absurd (omega arith)
-number_of (a ∷ b ∷ c ∷ d ∷ e ∷ f ∷ g ∷ h ∷ i ∷ j ∷ k ∷ l ∷ m ∷ n ∷ o ∷ p ∷ []) long = omega arith
-number_of (a ∷ b ∷ c ∷ d ∷ e ∷ f ∷ g ∷ h ∷ i ∷ j ∷ k ∷ l ∷ m ∷ n ∷ o ∷ p ∷ q ∷ bytes) long = absurd (omega arith)
+-- the first of a sum taken apart
+first_apart : (f : ℕ → ℕ) (k : ℕ) → sum_through f (suc k) ≡ f 0 + sum_through (λ i. f (suc i)) k
+first_apart f zero = refl
+first_apart f (suc k) = omega (arith, first_apart f k)
+
+-- the number of bytes, the last of which is worth least
+number_of : (k : ℕ) (bytes : List ℕ) → length bytes ≡ suc k → sum_through (λ i. byte_worth (k - i) (slice_index bytes i)) k ≡ worth (suc k) bytes
+number_of k [] long = absurd (omega arith)
+number_of zero (x ∷ bytes) long = omega arith
+number_of (suc k) (x ∷ bytes) long =
+    let front : suc k - 0 ≡ suc k = omega arith in
+    let behind : (i : ℕ) → suc k - suc i ≡ k - i = λ i. omega arith in
+    first_apart (λ i. byte_worth (suc k - i) (slice_index (x ∷ bytes) i)) k
+    ∙ (λ j. byte_worth (front j) x + sum_through (λ i. byte_worth (behind i j) (slice_index bytes i)) k)
+    ∙ ap (λ n. x * 256 ^ suc k + n) (number_of k bytes (omega arith))
 
 name_number : (bytes : List ℕ) (len : ℕ) → IsPadded bytes len → from_be_bytes w128 bytes ≡ worth 16 (take len bytes)
 name_number bytes len h =
     let long : length bytes ≡ 16 =
     ap (λ (l : List ℕ). length l) (sym h.zeros)
     ∙ omega (arith, length-append (take len bytes) (replicate (16 - len) 0), length-replicate {A = ℕ} (16 - len) 0, h.size, h.short) in
-    number_of bytes long ∙ ap (worth 16) (sym h.zeros) ∙ worth_padded 16 (16 - len) (take len bytes)
+    number_of 15 bytes long ∙ ap (worth 16) (sym h.zeros) ∙ worth_padded 16 (16 - len) (take len bytes)
 
 pub name_order : (one other : List ℕ) (len size : ℕ) → IsPadded one len → IsPadded other size
     → nat_cmp (from_be_bytes w128 one) (from_be_bytes w128 other) ≡ slice_cmp nat_cmp (take len one) (take size other)

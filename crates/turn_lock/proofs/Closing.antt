@@ -43,12 +43,10 @@ module _ {V B : Type 0} (entries : V → List Entry) (base_in : V → B) (base :
   -- a view that knows for none of the callers doesn't keep the slot
   keeps_none : (s : St) (r : Rule s) (u : View B) → Fits entries base_in base count s.homes r.log r.next r.serving u
       → ((caller : ℕ) → caller < count → times_of caller u ≡ 0) → keeps_slot u ≡ 0
-  keeps_none s r (Free all) f h = refl
-  keeps_none s r (Drawn x a) f h = refl
-  keeps_none s r (Up x a) f h = refl
   keeps_none s r (Holding x a) f h = let z = h a.caller f.knows.0.numbered in let o = one_if-same a.caller a.caller refl in absurd (omega arith)
   keeps_none s r (Lent x a) f h = let z = h a.caller f.knows.0.numbered in let o = one_if-same a.caller a.caller refl in absurd (omega arith)
   keeps_none s r (Left x a gain) f h = let z = h a.caller f.knows.0.numbered in let o = one_if-same a.caller a.caller refl in absurd (omega arith)
+  keeps_none s r _ f h = refl
 
   -- where one view knows for all callers, the value is in the slot
   pub there_at_last : (s : St) (r : Rule s) (id : ℕ) (all : List (Sight B)) → get_elem? s.views id ≡ some (Free all)

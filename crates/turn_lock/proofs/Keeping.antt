@@ -32,11 +32,7 @@ module _ {B : Type 0} where
 
   pub fewer_drawn : (v : View B) → is_drawn v ≤ callers_in v
   fewer_drawn (Free all) = omega arith
-  fewer_drawn (Drawn x a) = omega arith
-  fewer_drawn (Up x a) = omega arith
-  fewer_drawn (Holding x a) = omega arith
-  fewer_drawn (Lent x a) = omega arith
-  fewer_drawn (Left x a gain) = omega arith
+  fewer_drawn _ = omega arith
 
 module _ {V B : Type 0} where
   module _ (entries : V → List Entry) (base_in : V → B) (base : B) (count : ℕ) where

@@ -1,5 +1,5 @@
 //! The line of an entry.
-ghost use Rattle.std.specs.Prelude.{◌≡◌, ◌+◌, ◌≤◌, ◌∷◌, ◌++◌, length, decimal};
+ghost use Rattle.std.specs.Prelude.{◌≡◌, ◌+◌, ◌≤◌, [], ◌∷◌, ◌++◌, length, decimal};
 ghost use Rattle.entry_log.specs.ActorText.{actor_text};
 ghost use Rattle.sym_base.specs.Appends.{Appends};
 ghost use Rattle.entry_log.specs.EntryLine.{answer_words, behind_place, entry_line};
@@ -61,6 +61,25 @@ fn put_answer(line: &mut Line, answer: Option<i32>)
     }
 }
 
+/// Adds an actor between two spaces, at most 10 bytes. A thread of one digit, as most are, is written at once.
+#[tactic(auto, using(std::proofs::lemmas::Fmt::decimal_digit), unfolding(crate::specs::ActorText::actor_text))]
+fn put_spaced_actor(line: &mut Line, actor: Actor)
+    requires { length line.old.items + 10 ≤ 512 }
+    ensures text { line.new.items ≡ line.old.items ++ (32 ∷ actor_text actor ++ 32 ∷ []) }
+    ensures short { length line.new.items ≤ length line.old.items + 10 }
+{
+    match actor {
+        Actor::Thread(thread) if thread.0 < 10 => {
+            put_letters(line, &[b' ', b't', 48 + thread.0 as u8, b' ']);
+        }
+        _ => {
+            put_byte(line, b' ');
+            put_actor(line, actor);
+            put_byte(line, b' ');
+        }
+    }
+}
+
 /// Adds actor and step, each after a space, at most 31 bytes.
 fn put_act(line: &mut Line, entry: &Entry)
     requires { length line.old.items + 31 ≤ 512 }
@@ -68,9 +87,7 @@ fn put_act(line: &mut Line, entry: &Entry)
         ++ (32 ∷ actor_text entry.now.actor ++ 32 ∷ step_text entry.now.step) }
     ensures short { length line.new.items ≤ length line.old.items + 31 }
 {
-    put_byte(line, b' ');
-    put_actor(line, entry.actor);
-    put_byte(line, b' ');
+    put_spaced_actor(line, entry.actor);
     put_step(line, &entry.step);
 }
 

@@ -79,7 +79,21 @@ fn put_six_digits(line: &mut Line, number: u32)
     put_pair(line, number % 100);
 }
 
-/// Adds a number, two digits at a time if it has at most eight.
+/// Adds a number of at most 8 digits. Few numbers are that long, so it is not copied into its callers.
+#[inline(never)]
+fn put_eight_digits(line: &mut Line, number: u32)
+    requires digits { number < 100000000 }
+    requires room { length line.old.items + length (decimal number) ≤ 512 }
+    ensures { line.new.items ≡ line.old.items ++ decimal number }
+{
+    if number < 1000000 {
+        return put_six_digits(line, number);
+    }
+    put_six_digits(line, number / 100);
+    put_pair(line, number % 100);
+}
+
+/// Adds a number, two digits at a time.
 fn put_digits(line: &mut Line, number: u32)
     requires { length line.old.items + length (decimal number) ≤ 512 }
     ensures { line.new.items ≡ line.old.items ++ decimal number }
@@ -93,7 +107,8 @@ fn put_digits(line: &mut Line, number: u32)
         put_six_digits(line, number / 100);
         put_pair(line, number % 100);
     } else {
-        put_number(line, number);
+        put_eight_digits(line, number / 100);
+        put_pair(line, number % 100);
     }
 }
 

@@ -5,8 +5,8 @@ use Rattle.runner.proofs.summary.messages_of.Given as goal
 -- the messages of the entries that are behind, of which each has four effects at most
 abbrev pub invariant-loop-entry : goal.invariant-loop-entry
 invariant-loop-entry l = record {
-  accepted : l.accepted ≡ effects_that is_accept (take l.entry-index l.history);
-  finished : l.finished ≡ effects_that is_finish (take l.entry-index l.history);
-  few_accepted : l.accepted ≤ 4 * l.entry-index;
-  few_finished : l.finished ≤ 4 * l.entry-index;
+  accepted : l.messages.accepted ≡ effects_that is_accept (take l.entry-index l.history);
+  finished : l.messages.finished ≡ effects_that is_finish (take l.entry-index l.history);
+  few_accepted : l.messages.accepted ≤ 4 * l.entry-index;
+  few_finished : l.messages.finished ≤ 4 * l.entry-index;
 }

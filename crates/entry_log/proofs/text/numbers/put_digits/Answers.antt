@@ -46,3 +46,25 @@ returns-then-number-lt100000000 c =
       c.put_pair-then-number-lt100000000.ensures,
       c.put_six_digits.ensures,
     )
+
+pub put_eight_digits-requires-clause-room : goal.put_eight_digits-requires-clause-room
+put_eight_digits-requires-clause-room c = omega (arith, c.requires, length_digits_and_pair c.args.number (omega arith) (omega (arith, c.ranges.number.fits)))
+
+pub put_pair-requires-else-number-lt100000000-clause-room : goal.put_pair-requires-else-number-lt100000000-clause-room
+put_pair-requires-else-number-lt100000000-clause-room c =
+    omega (
+      arith,
+      c.requires,
+      length_digits_and_pair c.args.number (omega arith) (omega (arith, c.ranges.number.fits)),
+      ap length c.put_eight_digits.ensures,
+      length-append c.args.line.now.items (decimal (c.args.number / 100)),
+    )
+
+pub returns-else-number-lt100000000 : goal.returns-else-number-lt100000000
+returns-else-number-lt100000000 c =
+    simp (
+      digits_and_pair c.args.number (omega arith) (omega (arith, c.ranges.number.fits)),
+      append_assoc,
+      c.put_pair-else-number-lt100000000.ensures,
+      c.put_eight_digits.ensures,
+    )

@@ -4,7 +4,8 @@ use Rattle.std.specs.Fmt.{decimal}
 use Rattle.entry_log.proofs.text.numbers.put_six_digits.Goals as goal
 
 pub put_four_digits-requires-2-clause-room : goal.put_four_digits-requires-2-clause-room
-put_four_digits-requires-2-clause-room c = omega (arith, c.requires.room, length_digits_and_pair c.args.number (omega (arith, c.if-number-lt10000.false)) (omega arith))
+put_four_digits-requires-2-clause-room c =
+    omega (arith, c.requires.room, length_digits_and_pair c.args.number (omega (arith, c.if-number-lt10000.false)) (omega arith))
 
 pub put_pair-requires-clause-room : goal.put_pair-requires-clause-room
 put_pair-requires-clause-room c =
@@ -17,4 +18,10 @@ put_pair-requires-clause-room c =
     )
 
 pub returns : goal.returns
-returns c = simp (digits_and_pair c.args.number (omega (arith, c.if-number-lt10000.false)) (omega arith), append_assoc, c.put_pair.ensures, c.put_four_digits-2.ensures)
+returns c =
+    simp (
+      digits_and_pair c.args.number (omega (arith, c.if-number-lt10000.false)) (omega arith),
+      append_assoc,
+      c.put_pair.ensures,
+      c.put_four_digits-2.ensures,
+    )

@@ -1,4 +1,4 @@
-use Rattle.std.proofs.Common.{◌≡◌, ℕ, List, take, ap, ◌∙◌}
+use Rattle.std.proofs.Common.{ℕ, List, take, ap, ◌∙◌}
 use Rattle.std.specs.Ordering.{nat_cmp}
 use Rattle.std.specs.Int.{w128, from_be_bytes}
 use Rattle.std.specs.Cmp.Lexicographic.{slice_cmp}
