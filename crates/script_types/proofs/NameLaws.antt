@@ -1,6 +1,6 @@
 -- In every well-formed script the names resolve.
 use Rattle.std.proofs.Common.{◌≡◌, ◌⊎◌, inl, inr, ℕ, ◌<◌, ◌≤◌, ◌^◌, Bool, true, false, List, [], ◌∷◌, ◌++◌, map, replicate, length, zero, suc, sym, ap, subst, ◌∙◌, refl, arith, Option, Some, None}
-use Rattle.std.proofs.lemmas.Bool.{leb-true, or_right, or_parts}
+use Rattle.std.proofs.lemmas.Bool.{false≢true, leb-true, ltb-true, or_right, or_parts}
 use Rattle.std.proofs.lemmas.Bool.Decides.{nat_tests}
 use Rattle.std.proofs.lemmas.Fmt.{decimal_injective}
 use Rattle.std.proofs.lemmas.Slice.Eq.{bytes_eq-Decides}
@@ -40,7 +40,7 @@ abbrev twos : List SourceLine → List Declared
 twos lines = map first_two (map source_words lines)
 
 any_more : {A : Type 0} (test : A → Bool) (xs ys : List A) → list_any test xs ≡ true → list_any test (xs ++ ys) ≡ true
-any_more test [] ys h = absurd (cc)
+any_more test [] ys h = absurd (false≢true h)
 any_more test (x ∷ xs) ys h =
     elim (or_true (test x) (list_any test xs) h) as
     (λ _. (test x || list_any test (xs ++ ys)) ≡ true)
@@ -67,7 +67,7 @@ stays sort has t c (l ∷ ls) name h = stays sort has t (after c l) ls name (t.g
 told : (sort : List ℕ) (has : Script → List ℕ → Bool) → Tells sort has
     → (c : Context) (lines : List SourceLine) (name : List ℕ) → is_declared (twos lines) sort name ≡ true
     → has (after_all c lines).script name ≡ true
-told sort has t c [] name h = absurd (cc)
+told sort has t c [] name h = absurd (false≢true h)
 told sort has t c (l ∷ ls) name h =
     elim (or_true (declares sort name (first_two (source_words l))) (is_declared (twos ls) sort name) h) as
     (λ _. has (after_all (after c l) ls).script name ≡ true) [
@@ -142,9 +142,9 @@ queue-adds : (c : Context) (l : SourceLine) (name : List ℕ)
     → declares (codes "dfcq") name (first_two (source_words l)) ≡ true → has_queue (after c l).script name ≡ true
 queue-adds c (line.Queue n p) name h = any_last (λ (d : QueueDecl). bytes_eq name d.name) c.script.queues _ (turned n name h)
 queue-adds c (line.Instr what) name h = absurd (not_told (codes "dfcq") name what (no_dfcq what) h)
-queue-adds c (line.KernelThread n p true) name h = absurd (cc)
-queue-adds c (line.Thread n p true) name h = absurd (cc)
-queue-adds c _ name h = absurd (cc)
+queue-adds c (line.KernelThread n p true) name h = absurd (false≢true h)
+queue-adds c (line.Thread n p true) name h = absurd (false≢true h)
+queue-adds c _ name h = absurd (false≢true h)
 
 dfc-grows : (c : Context) (l : SourceLine) (name : List ℕ) → has_dfc c.script name ≡ true → has_dfc (after c l).script name ≡ true
 dfc-grows c (line.Dfc n queue p ops) name h = any_more (λ (d : DfcDecl). bytes_eq name d.name) c.script.dfcs _ h
@@ -154,9 +154,9 @@ dfc-adds : (c : Context) (l : SourceLine) (name : List ℕ)
     → declares (codes "dfc") name (first_two (source_words l)) ≡ true → has_dfc (after c l).script name ≡ true
 dfc-adds c (line.Dfc n queue p ops) name h = any_last (λ (d : DfcDecl). bytes_eq name d.name) c.script.dfcs _ (turned n name h)
 dfc-adds c (line.Instr what) name h = absurd (not_told (codes "dfc") name what (no_dfc what) h)
-dfc-adds c (line.KernelThread n p true) name h = absurd (cc)
-dfc-adds c (line.Thread n p true) name h = absurd (cc)
-dfc-adds c _ name h = absurd (cc)
+dfc-adds c (line.KernelThread n p true) name h = absurd (false≢true h)
+dfc-adds c (line.Thread n p true) name h = absurd (false≢true h)
+dfc-adds c _ name h = absurd (false≢true h)
 
 idfc-grows : (c : Context) (l : SourceLine) (name : List ℕ) → has_idfc c.script name ≡ true → has_idfc (after c l).script name ≡ true
 idfc-grows c (line.Idfc n ops) name h = any_more (λ (d : IdfcDecl). bytes_eq name d.name) c.script.idfcs _ h
@@ -166,9 +166,9 @@ idfc-adds : (c : Context) (l : SourceLine) (name : List ℕ)
     → declares (codes "idfc") name (first_two (source_words l)) ≡ true → has_idfc (after c l).script name ≡ true
 idfc-adds c (line.Idfc n ops) name h = any_last (λ (d : IdfcDecl). bytes_eq name d.name) c.script.idfcs _ (turned n name h)
 idfc-adds c (line.Instr what) name h = absurd (not_told (codes "idfc") name what (no_idfc what) h)
-idfc-adds c (line.KernelThread n p true) name h = absurd (cc)
-idfc-adds c (line.Thread n p true) name h = absurd (cc)
-idfc-adds c _ name h = absurd (cc)
+idfc-adds c (line.KernelThread n p true) name h = absurd (false≢true h)
+idfc-adds c (line.Thread n p true) name h = absurd (false≢true h)
+idfc-adds c _ name h = absurd (false≢true h)
 
 thread-grows : (c : Context) (l : SourceLine) (name : List ℕ) → has_thread c.script name ≡ true → has_thread (after c l).script name ≡ true
 thread-grows c (line.KernelThread n p held) name h = any_more (λ (d : ThreadDecl). bytes_eq name d.name) c.script.threads _ h
@@ -181,16 +181,16 @@ thread-adds : (c : Context) (l : SourceLine) (name : List ℕ)
 thread-adds c (line.Thread n p true) name h = any_last (λ (d : ThreadDecl). bytes_eq name d.name) c.script.threads _ (turned n name h)
 thread-adds c (line.Thread n p false) name h = any_last (λ (d : ThreadDecl). bytes_eq name d.name) c.script.threads _ (turned n name h)
 thread-adds c (line.Instr what) name h = absurd (not_told (codes "thread") name what (no_thread what) h)
-thread-adds c (line.KernelThread n p true) name h = absurd (cc)
-thread-adds c _ name h = absurd (cc)
+thread-adds c (line.KernelThread n p true) name h = absurd (false≢true h)
+thread-adds c _ name h = absurd (false≢true h)
 
 kthread-adds : (c : Context) (l : SourceLine) (name : List ℕ)
     → declares (codes "kthread") name (first_two (source_words l)) ≡ true → has_thread (after c l).script name ≡ true
 kthread-adds c (line.KernelThread n p true) name h = any_last (λ (d : ThreadDecl). bytes_eq name d.name) c.script.threads _ (turned n name h)
 kthread-adds c (line.KernelThread n p false) name h = any_last (λ (d : ThreadDecl). bytes_eq name d.name) c.script.threads _ (turned n name h)
 kthread-adds c (line.Instr what) name h = absurd (not_told (codes "kthread") name what (no_kthread what) h)
-kthread-adds c (line.Thread n p true) name h = absurd (cc)
-kthread-adds c _ name h = absurd (cc)
+kthread-adds c (line.Thread n p true) name h = absurd (false≢true h)
+kthread-adds c _ name h = absurd (false≢true h)
 
 queue_tells : Tells (codes "dfcq") has_queue
 queue_tells = record { grows = queue-grows; adds = queue-adds }
@@ -222,25 +222,28 @@ same_number j k small few h =
     grind (arith, nat_tests)
 
 slot_late : (rank : Option ℕ) (awaits : Bool) → may_stand rank awaits of.Slot ≡ true → 9 ≤ rank_or rank
-slot_late None awaits h = absurd (cc)
-slot_late (Some rank) true h = absurd (cc)
+slot_late None awaits h = absurd (false≢true h)
+slot_late (Some rank) true h = absurd (false≢true h)
 slot_late (Some rank) false h = grind (arith, nat_tests)
+
+no_slot : (rank : Option ℕ) (awaits : Bool) → rank_or rank < 9 → may_stand rank awaits of.Slot ≡ true → ⊥
+no_slot rank awaits before h = let late = slot_late rank awaits h in omega arith
 
 none_behind : (file : List Declared) (c : Context) (lines : List SourceLine) (k : ℕ)
     → AllStand file (after c line.End) lines → is_irq_declared (twos lines) (decimal k) ≡ true → ⊥
-none_behind file c [] k stand h = cc
-none_behind file c (line.Instr what ∷ ls) k stand h = let order = stand.0.order in cc
-none_behind file c (l ∷ ls) k stand h = let order = stand.0.order in cc
+none_behind file c [] k stand h = false≢true h
+none_behind file c (line.Instr what ∷ ls) k stand h = false≢true stand.0.order
+none_behind file c (l ∷ ls) k stand h = false≢true stand.0.order
 
 irq_step : (schedule here later : Bool) → (not schedule && (here || later)) ≡ true → (schedule ≡ false) × ((here ≡ true) ⊎ (later ≡ true))
-irq_step true here later h = absurd (cc)
+irq_step true here later h = absurd (false≢true h)
 irq_step false true later h = (refl, inl refl)
 irq_step false false later h = (refl, inr h)
 
 irq_told : (file : List Declared) (c : Context) (lines : List SourceLine) (k : ℕ) → AllStand file c lines
     → rank_or c.rank < 9 → k ≤ 31 → is_irq_declared (twos lines) (decimal k) ≡ true
     → has_irq (after_all c lines).script k ≡ true
-irq_told file c [] k stand before few h = absurd (cc)
+irq_told file c [] k stand before few h = absurd (false≢true h)
 irq_told file c (line.IrqBody j ops ∷ ls) k stand before few h =
     elim (irq_step false (bytes_eq (decimal j) (decimal k)) (is_irq_declared (twos ls) (decimal k)) h).1 as
     (λ _. has_irq (after_all (after c (line.IrqBody j ops)) ls).script k ≡ true) [
@@ -248,12 +251,12 @@ irq_told file c (line.IrqBody j ops ∷ ls) k stand before few h =
           irq_stays (after c (line.IrqBody j ops)) ls k
           (any_last (λ (i : IrqBody). i.number == k) c.script.irqs _
           (same_number j k (number_in 0 31 j (in_form (form_of (line.IrqBody j ops)) stand.0.ranges).0.0).1 few e))
-      | inr e ↦ irq_told file (after c (line.IrqBody j ops)) ls k stand.1 (omega arith) few e
+      | inr e ↦ irq_told file (after c (line.IrqBody j ops)) ls k stand.1 (ltb-true _ 9 refl) few e
     ]
-irq_told file c (line.Schedule ∷ ls) k stand before few h = absurd (cc)
-irq_told file c (line.IrqSlot j ∷ ls) k stand before few h = let late = slot_late c.rank c.awaits_thread stand.0.order in absurd (omega arith)
-irq_told file c (line.Go count ∷ ls) k stand before few h = let late = slot_late c.rank c.awaits_thread stand.0.order in absurd (omega arith)
-irq_told file c (line.Tick ∷ ls) k stand before few h = let late = slot_late c.rank c.awaits_thread stand.0.order in absurd (omega arith)
+irq_told file c (line.Schedule ∷ ls) k stand before few h = absurd (false≢true h)
+irq_told file c (line.IrqSlot j ∷ ls) k stand before few h = absurd (no_slot c.rank c.awaits_thread before stand.0.order)
+irq_told file c (line.Go count ∷ ls) k stand before few h = absurd (no_slot c.rank c.awaits_thread before stand.0.order)
+irq_told file c (line.Tick ∷ ls) k stand before few h = absurd (no_slot c.rank c.awaits_thread before stand.0.order)
 irq_told file c (line.End ∷ ls) k stand before few h = absurd (none_behind file c ls k stand.1 h)
 irq_told file c (line.Instr what ∷ ls) k stand before few h =
     let s = irq_step (bytes_eq (first_two (source_words (line.Instr what))).0 (codes "schedule"))
@@ -263,11 +266,13 @@ irq_told file c (line.Instr what ∷ ls) k stand before few h =
       | inl e ↦ absurd (not_told (codes "irq") (decimal k) what (no_irq what) e)
       | inr e ↦ irq_told file (after c (line.Instr what)) ls k stand.1 before few e
     ]
-irq_told file c (line.KernelThread n p true ∷ ls) k stand before few h = irq_told file (after c (line.KernelThread n p true)) ls k stand.1 (omega arith) few h
-irq_told file c (line.KernelThread n p false ∷ ls) k stand before few h = irq_told file (after c (line.KernelThread n p false)) ls k stand.1 (omega arith) few h
-irq_told file c (line.Thread n p true ∷ ls) k stand before few h = irq_told file (after c (line.Thread n p true)) ls k stand.1 (omega arith) few h
-irq_told file c (line.Thread n p false ∷ ls) k stand before few h = irq_told file (after c (line.Thread n p false)) ls k stand.1 (omega arith) few h
-irq_told file c (l ∷ ls) k stand before few h = irq_told file (after c l) ls k stand.1 (omega arith) few h
+irq_told file c (line.KernelThread n p true ∷ ls) k stand before few h =
+    irq_told file (after c (line.KernelThread n p true)) ls k stand.1 (ltb-true _ 9 refl) few h
+irq_told file c (line.KernelThread n p false ∷ ls) k stand before few h =
+    irq_told file (after c (line.KernelThread n p false)) ls k stand.1 (ltb-true _ 9 refl) few h
+irq_told file c (line.Thread n p true ∷ ls) k stand before few h = irq_told file (after c (line.Thread n p true)) ls k stand.1 (ltb-true _ 9 refl) few h
+irq_told file c (line.Thread n p false ∷ ls) k stand before few h = irq_told file (after c (line.Thread n p false)) ls k stand.1 (ltb-true _ 9 refl) few h
+irq_told file c (l ∷ ls) k stand before few h = irq_told file (after c l) ls k stand.1 (ltb-true _ 9 refl) few h
 
 -- what the lines so far name is declared in the file
 slot_known : List Declared → Slot → Bool
