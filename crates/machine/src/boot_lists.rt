@@ -39,7 +39,7 @@ pub fn empty_lists<T: Copy>(alloc: Global, all: &[Born]) -> Result<Items<Items<T
     Ok(Items::new(lists))
 }
 
-/// The threads that are declared and aren't held are ready, in order of number.
+/// The ready list at boot of what stands then: the threads that are declared and aren't held are ready, in order of number.
 pub fn ready_from(alloc: Global, all: &[Born]) -> Result<Items<ThreadNo>, NoMemory>
     requires { length all.now ≤ 65536 }
     ensures { IfOk result (λ ready. ready ≡ ready_from 0 all.now) }

@@ -34,6 +34,7 @@ mod task;
 mod touches;
 
 pub use boot::{Born, all_born};
+pub use boot_lists::ready_from;
 pub use boot_state::{boot_of, ready_at_boot, state_at_boot, uses_again};
 pub use copy_rules::{CopyMove, Job};
 pub use count::{count_of, dies, is_counted};

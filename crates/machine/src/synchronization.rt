@@ -73,18 +73,46 @@ fn copied_locks(alloc: Global, locks: &LockRows) -> Result<LockRows, AllocError>
     })
 }
 
+/// Mutexes, what each thread holds of them, and the logons on it, a second time.
+fn copied_holdings(
+    alloc: Global,
+    rows: &Synchronization,
+) -> Result<(LockRows, Items<Items<ObjNo>>, Items<Items<(ThreadNo, u8)>>), AllocError>
+    ensures { IfOk result (λ copy. copy ≡ (rows.now.locks, rows.now.mutexes, rows.now.logons)) }
+{
+    let mutexes = copied_lists(alloc, rows.mutexes.as_slice())?;
+    let logons = copied_lists(alloc, rows.logons.as_slice())?;
+    let locks = copied_locks(alloc, &rows.locks)?;
+    Ok((locks, mutexes, logons))
+}
+
+/// Deferred function calls, requests, and what the nanokernel keeps, a second time.
+fn copied_signals(
+    alloc: Global,
+    rows: &Synchronization,
+) -> Result<(DeferredRows, RequestRows, NanoRows), AllocError>
+    ensures { IfOk result (λ copy. copy ≡ (rows.now.deferred, rows.now.requests, rows.now.nano)) }
+{
+    let deferred = copied_deferred(alloc, &rows.deferred)?;
+    let requests = copied_requests(alloc, &rows.requests)?;
+    let nano = copied_nano(alloc, &rows.nano)?;
+    Ok((deferred, requests, nano))
+}
+
 impl Synchronization {
     /// The same rows, a second time.
     pub fn copied(&self, alloc: Global) -> Result<Synchronization, AllocError>
         ensures { IfOk result (λ copy. copy ≡ self.now) }
     {
+        let (locks, mutexes, logons) = copied_holdings(alloc, self)?;
+        let (deferred, requests, nano) = copied_signals(alloc, self)?;
         Ok(Synchronization {
-            mutexes: copied_lists(alloc, self.mutexes.as_slice())?,
-            logons: copied_lists(alloc, self.logons.as_slice())?,
-            deferred: copied_deferred(alloc, &self.deferred)?,
-            locks: copied_locks(alloc, &self.locks)?,
-            requests: copied_requests(alloc, &self.requests)?,
-            nano: copied_nano(alloc, &self.nano)?,
+            nano,
+            deferred,
+            requests,
+            locks,
+            mutexes,
+            logons,
         })
     }
 }
