@@ -4,6 +4,7 @@ ghost use Rattle.std.specs.List.{list_any};
 ghost use Rattle.std.specs.Option.{ForSome};
 ghost use Rattle.cleanup.specs.Lists.{Lists, empty_lists, list_of, is_object, pushed, removed, IsKnown, HasPlace, held_of, owed, first_done, next_after, IsNoneAtEnd, IsWalk};
 ghost use Rattle.cleanup.specs.Nodes.{logon};
+ghost use Rattle.links.specs.Linked.{empty_lists as no_items};
 
 use crate::duties::{DUTIES, Duties};
 use crate::items::ThreadItems;
@@ -42,17 +43,29 @@ impl Model for Cleanup {
     ghost invariant = { λ a. AreSized (length a.temporary.items) a.duties a.mutexes a.servers a.logons };
 }
 
+/// Empty lists of mutexes, of servers and of logons, for the threads and objects below two numbers.
+fn empty_items(
+    alloc: Global,
+    threads: u16,
+    objects: u16,
+) -> Result<(ThreadItems, ThreadItems, ThreadItems), NoMemory>
+    ensures { IfOk result (λ lists. lists ≡ (no_items objects threads, no_items objects threads, no_items (threads * 16) threads)) }
+{
+    let mutexes = ThreadItems::new(alloc, objects as u32, threads)?;
+    let servers = ThreadItems::new(alloc, objects as u32, threads)?;
+    let logons = ThreadItems::new(alloc, threads as u32 * STATUSES as u32, threads)?;
+    Ok((mutexes, servers, logons))
+}
+
 impl Cleanup {
     /// Empty lists for the threads and objects below two numbers. It takes all the memory that they ever
     /// need.
     pub fn new(alloc: Global, threads: u16, objects: u16) -> Result<Cleanup, NoMemory>
         ensures { IfOk result (λ lists. lists ≡ empty_lists threads objects) }
     {
-        let duties = Duties::new(alloc, threads)?;
-        let mutexes = ThreadItems::new(alloc, objects as u32, threads)?;
-        let servers = ThreadItems::new(alloc, objects as u32, threads)?;
-        let logons = ThreadItems::new(alloc, threads as u32 * STATUSES as u32, threads)?;
+        let (mutexes, servers, logons) = empty_items(alloc, threads, objects)?;
         let temporary = vec![in alloc; None; threads as usize]?;
+        let duties = Duties::new(alloc, threads)?;
         Ok(Cleanup {
             duties,
             mutexes,

@@ -43,7 +43,6 @@ impl Nano {
     /// The tables for a script's threads, of which none is ready, and for its deferred function calls, of which none is
     /// queued. They have a row for each object that stands at boot and for each fast mutex of the script. It takes all
     /// the memory that they ever need.
-    #[tactic(auto, using(script_types::proofs::ShapeLaws::formed_is_shaped))]
     pub fn new(alloc: Global, script: &Script) -> Result<Nano, NoMemory>
         requires { IsWellFormed script.now }
         ensures ready { IfOk result (λ nano. nano.ready ≡ no_threads BOOT_OBJECTS) }

@@ -4,7 +4,7 @@ use Rattle.std.proofs.lemmas.List.{get_or_past}
 use Rattle.std.proofs.lemmas.Grind.{common_steps}
 use Rattle.ref_words.specs.declared.slip.Slip.{Slip}
 use Rattle.ref_words.specs.declared.answer.Found.TheVariants.{Held, Dead}
-use Rattle.ref_words.specs.declared.answer.Closed.TheVariants.{Last}
+use Rattle.ref_words.specs.declared.answer.Closed.TheVariants.{Stays, Last}
 use Rattle.ref_words.specs.declared.answer.Stage.{Stage}
 use Rattle.ref_words.specs.declared.answer.Stage.TheVariants.{Fresh, InUse, Gone}
 use Rattle.ref_words.specs.Words.{Words, own_at, stage_at, IsFresh, IsCreated, IsGone, IsOut, created, opened, sent_out, taken_back, closed, without}
@@ -120,6 +120,20 @@ gone w p s made none = gone_stage (stage_at w p) made (λ h. omega (arith, s.cou
 -- a place with a count is one of the words
 pub known_placed : (own : List ℕ) (p : ℕ) → 0 < get_or own p 0 → p < length own
 known_placed own p known = let past = get_or_past own p 0 in grind arith
+
+-- a reference goes, and others stay
+pub sound_closed : (w : Words) (p : ℕ) → IsSound w → 1 < own_at w p → IsSound (closed Stays w p)
+sound_closed w p s more = record {
+  sizes = simp length-set (s.sizes);
+  in_use = λ q h. let here = s.in_use p (omega arith) in grind (arith, common_steps);
+  counted = λ q h. let old = s.counted q h in grind (arith, common_steps);
+  few = s.few;
+  out_created = s.out_created;
+  numbered = s.numbered;
+  once = s.once;
+  unmade = s.unmade;
+  small = λ q. let old = s.small q in grind (arith, common_steps);
+}
 
 -- the last reference goes, and the place is gone
 pub sound_closed_last : (w : Words) (p : ℕ) → IsSound w → own_at w p ≡ 1 → IsSound (closed Last w p)
