@@ -67,25 +67,14 @@ counts-less counts x holder false some o =
 pub nano_counts : (counts : List ℕ) (m : NanoMove) → CountsMove counts counts (nano_told m)
 nano_counts counts (nano.Take t f) o = refl
 nano_counts counts (nano.Give t f) o = refl
-nano_counts counts (nano.Want t f) o = refl
-nano_counts counts (nano.Enter t) o = refl
-nano_counts counts (nano.Leave t) o = refl
-nano_counts counts (nano.LeaveAll t) o = refl
-nano_counts counts (nano.Suspend t) o = refl
-nano_counts counts (nano.Resume t) o = refl
-nano_counts counts (nano.Release t) o = refl
-nano_counts counts (nano.Raise t) o = refl
-nano_counts counts (nano.Lower t) o = refl
+nano_counts counts _ o = refl
 
 -- nor do moves in the table of requests
 pub request_counts : (counts : List ℕ) (m : RequestMove) → CountsMove counts counts (request_told m)
-request_counts counts (request.Begin d t s) o = refl
 request_counts counts (request.Complete d t s code) o = refl
-request_counts counts (request.SetPending t s) o = refl
 request_counts counts (request.Signal t s code) o = refl
-request_counts counts (request.DropAll t) o = refl
-request_counts counts (request.TakeSignal t) o = refl
 request_counts counts (request.Reply t code) o = refl
+request_counts counts _ o = refl
 
 -- two references more
 pub counts-two : (counts : List ℕ) (x y : ObjNo) (m : MsgNo) (holder : Holder) → 0 < slice_index counts x.0

@@ -1,5 +1,5 @@
 -- What holders get and give up goes through, and there are places for what a thread owes then.
-use Rattle.std.proofs.Common.{◌≡◌, ◌<◌, ◌≤◌, List, [], ◌∷◌, length, arith, Some}
+use Rattle.std.proofs.Common.{◌≡◌, ℕ, ◌+◌, ◌<◌, ◌≤◌, List, [], ◌∷◌, length, subst, arith, Some}
 use Rattle.sym_base.specs.declared.number.ObjNo.{ObjNo}
 use Rattle.script_types.specs.declared.script.Script.{Script}
 use Rattle.entry_log.specs.declared.effect.Holder.{Holder}
@@ -32,11 +32,17 @@ few_duties : (owed : List Owed) → length owed ≤ total weight owed
 few_duties [] = omega arith
 few_duties (what ∷ rest) = omega (arith, weighs what, few_duties rest)
 
+light : (duties weights : ℕ) → duties ≤ weights → weights ≤ 12 → duties + 2 ≤ 16
+light duties weights few weigh = omega arith
+
 pub few_places : (script : Script) (S : State) (t : ObjNo) → AreRows script S → HasPlaces 2 S t
-few_places script S t rows = omega (arith, few_duties (owed_of S t), rows.references.duties.few t.0)
+few_places script S t rows = light (length (owed_of S t)) _ (few_duties (owed_of S t)) (rows.references.duties.few t.0)
+
+one_of_two : (duties : ℕ) → duties + 2 ≤ 16 → duties + 1 ≤ 16
+one_of_two duties two = omega arith
 
 pub one_place : (script : Script) (S : State) (t : ObjNo) → AreRows script S → HasPlaces 1 S t
-one_place script S t rows = let two = few_places script S t rows in omega arith
+one_place script S t rows = one_of_two (length (owed_of S t)) (few_places script S t rows)
 
 -- a call that gets a reference uses nothing yet
 pub may_gain : (S : State) (h : Holder) → IsFree S h → MayGain S h
@@ -80,9 +86,7 @@ makes_least S Kernel free = tt
 -- what an owner gives up is a server, whose number is that of an object
 small_server : (script : Script) (S : State) (o : ObjNo) (server : ServerRow) → AreRows script S → server_at S.serving.servers o ≡ Some server → o.0 < 4096
 small_server script S o server rows is =
-    let sized = rows.serving.servers.servers_sized in
-    let low = inside S.serving.servers.servers o.0 server is in
-    omega arith
+    subst (λ (n : ℕ). o.0 < n) rows.serving.servers.servers_sized (inside S.serving.servers.servers o.0 server is)
 
 pub may_lose : (script : Script) (S : State) (h : Holder) (o : ObjNo) → AreRows script S → Holds S h o → MayLose h o
 may_lose script S (Own t) o rows holds = let owns = rows.serving.servers.owners t o holds in small_server script S o owns.row rows owns.is

@@ -22,37 +22,17 @@ unowned S o none some =
 
 pub may_own : (s : Lists) (h : Holder) (o : ObjNo) → o.0 < s.objects → (HasSome (is_object o) s.servers → ⊥) → MayOwn s h o
 may_own s (Own t) o small free = (small, free)
-may_own s (InProcess p i) o small free = tt
-may_own s (InThread t i) o small free = tt
-may_own s (Temp t) o small free = tt
-may_own s (Link x) o small free = tt
-may_own s (Message m) o small free = tt
-may_own s Kernel o small free = tt
+may_own s _ o small free = tt
 
 pub may_disown : (s : Lists) (h : Holder) (o : ObjNo) → s.objects ≡ OBJECTS → MayLose h o → MayDisown s h o
 may_disown s (Own t) o listed may = omega arith
-may_disown s (InProcess p i) o listed may = tt
-may_disown s (InThread t i) o listed may = tt
-may_disown s (Temp t) o listed may = tt
-may_disown s (Link x) o listed may = tt
-may_disown s (Message m) o listed may = tt
-may_disown s Kernel o listed may = tt
+may_disown s _ o listed may = tt
 
 -- and so it stays where uses change
 pub may_gained : (s : Lists) (h : Holder) (used o : ObjNo) → MayOwn s h o → MayOwn (use_gained h used s) h o
 may_gained s (Own t) used o may = may
-may_gained s (InProcess p i) used o may = tt
-may_gained s (InThread t i) used o may = tt
-may_gained s (Temp t) used o may = tt
-may_gained s (Link x) used o may = tt
-may_gained s (Message m) used o may = tt
-may_gained s Kernel used o may = tt
+may_gained s _ used o may = tt
 
 pub may_lost : (s : Lists) (h : Holder) (o : ObjNo) → MayDisown s h o → MayDisown (use_lost h s) h o
 may_lost s (Own t) o may = may
-may_lost s (InProcess p i) o may = tt
-may_lost s (InThread t i) o may = tt
-may_lost s (Temp t) o may = tt
-may_lost s (Link x) o may = tt
-may_lost s (Message m) o may = tt
-may_lost s Kernel o may = tt
+may_lost s _ o may = tt

@@ -43,6 +43,9 @@ use Rattle.kernel_tables.specs.Performed.{IsPerformed}
 use Rattle.kernel_tables.specs.ReadyQueues.{AreReady, Follow, pair, pairs, leave, leave_along}
 use Rattle.kernel_tables.specs.StateOf.{state_of}
 use Rattle.kernel_tables.proofs.ReadyLists.{taken_unset}
+use Rattle.std.proofs.Math.Bool.{and_assoc, and-true, and-false}
+use Rattle.machine_laws.proofs.Sharing.Moved.{tell-both}
+use Rattle.machine_laws.proofs.Fitting.Stepping.{perform-append}
 
 -- threads of the same priorities
 pairs_same : (rank other : ObjNo → ℕ) (qs : List ObjNo) → ((t : ObjNo) → is_listed qs t ≡ true → other t ≡ rank t) → pairs rank qs ≡ pairs other qs
@@ -64,17 +67,6 @@ ranks_same rank other qs r same h = record {
   size = h.size;
 }
 
--- moves in two parts
-perform_append : (t : ObjNo) (ms ns : List Move) (S : State) → perform t (ms ++ ns) S ≡ perform t ns (perform t ms S)
-perform_append t [] ns S = refl
-perform_append t (m ∷ ms) ns S = perform_append t ms ns (moved t m S)
-
-pub tell_append : (t : ObjNo) (ms ns : List Move) (S : State) → tell t (ms ++ ns) S ≡ tell t ms S ++ tell t ns (perform t ms S)
-tell_append t [] ns S = refl
-tell_append t (m ∷ ms) ns S =
-    ap (λ (es : List Effect). told m S ++ es) (tell_append t ms ns (moved t m S))
-    ∙ sym (append_assoc (told m S) (tell t ms (moved t m S)) (tell t ns (perform t ms (moved t m S))))
-
 arrivals_append : (script : Script) (t : ObjNo) (ms ns : List Move) (S : State) (qs : List ObjNo)
     → arrivals script t (ms ++ ns) S qs ≡ arrivals script t ns (perform t ms S) (arrivals script t ms S qs)
 arrivals_append script t [] ns S qs = refl
@@ -85,19 +77,6 @@ pub moves_part : (script : Script) (t : ObjNo) (ms ns : List Move) (S : State) �
 moves_part script t [] ns S go = (tt, go)
 moves_part script t (m ∷ ms) ns S go = let parts = moves_part script t ms ns (moved t m S) go.1 in ((go.0, parts.0), parts.1)
 
--- the choice that stands in a state
-own_choice : (keep : Bool) → keep ≡ (keep && true)
-own_choice true = refl
-own_choice false = refl
-
-nothing_kept : (keep : Bool) → false ≡ (keep && false)
-nothing_kept true = refl
-nothing_kept false = refl
-
-and_assoc : (a b c : Bool) → ((a && b) && c) ≡ (a && (b && c))
-and_assoc true b c = refl
-and_assoc false b c = refl
-
 deathless_both : (xs ys : List Effect) → is_deathless (xs ++ ys) ≡ (is_deathless xs && is_deathless ys)
 deathless_both [] ys = refl
 deathless_both (Dead o ∷ xs) ys = refl
@@ -107,7 +86,6 @@ deathless_both (_ ∷ xs) ys = deathless_both xs ys
 closes_same : (m : Move) → closing_bit m ≡ close_bit m
 closes_same (Lose h o) = refl
 closes_same (Pay (Close h o)) = refl
-closes_same (Pay (Sweep o)) = refl
 closes_same m = refl
 
 pub closes_all : (ms : List Move) → total closing_bit ms ≡ total close_bit ms
@@ -127,11 +105,11 @@ pub unchosen : (script : Script) (t : ObjNo) (ms : List Move) (old new : State) 
     (was is : List Effect)
     → total closing_bit ms ≡ 0 → IsPerformed script t ms old new before after was is → new.mode.keep ≡ old.mode.keep
 unchosen script t ms old new before after was is none done =
-    done.keeps ∙ ap (λ (b : Bool). old.mode.keep && b) (silent script t ms (keeping new.mode.keep old) none) ∙ sym (own_choice old.mode.keep)
+    done.keeps ∙ ap (λ (b : Bool). old.mode.keep && b) (silent script t ms (keeping new.mode.keep old) none) ∙ and-true old.mode.keep
 
 -- no move
 pub performed_none : (script : Script) (t : ObjNo) (S : State) (r : Ready) (was : List Effect) → IsPerformed script t [] S S r r was was
-performed_none script t S r was = record { state = refl; told = sym (append-nil was); queues = λ qs ready. ready; keeps = own_choice S.mode.keep }
+performed_none script t S r was = record { state = refl; told = sym (append-nil was); queues = λ qs ready. ready; keeps = sym (and-true S.mode.keep) }
 
 -- and the state is the one that they leave of the old one
 pub calm_state : (script : Script) (t : ObjNo) (ms : List Move) (old new : State) (before after : Ready)
@@ -191,15 +169,15 @@ performed_then script t ms ns old mid new before between after was es is once fi
     let tells : es ≡ was ++ tell t ms S = first.told ∙ ap (λ (l : List Effect). was ++ l) (sym comes.tells) in
     let deaths : is_deathless (tell t (ms ++ ns) S)
     ≡ (is_deathless (tell t ms (keeping mid.mode.keep old)) && is_deathless (tell t ns (keeping keep mid))) =
-    ap is_deathless (tell_append t ms ns S)
+    ap is_deathless (tell-both t ms ns S)
     ∙ deathless_both (tell t ms S) (tell t ns T)
     ∙ ap (λ (l : List Effect). is_deathless l && is_deathless (tell t ns T)) comes.tells
     ∙ ap (λ (U : State). is_deathless (tell t ms (keeping mid.mode.keep old)) && is_deathless (tell t ns U))
     comes.moves in
     record {
-      state = second.state ∙ (ap (perform t ns) here ∙ sym (perform_append t ms ns S));
+      state = second.state ∙ (ap (perform t ns) here ∙ sym (perform-append t ms ns S));
       told = second.told ∙ (ap (λ (U : State). es ++ tell t ns U) here ∙ (ap (λ (l : List Effect). l ++ tell t ns T) tells
-          ∙ (append_assoc was (tell t ms S) (tell t ns T) ∙ ap (λ (l : List Effect). was ++ l) (sym (tell_append t ms ns S)))));
+          ∙ (append_assoc was (tell t ms S) (tell t ns T) ∙ ap (λ (l : List Effect). was ++ l) (sym (tell-both t ms ns S)))));
       queues = λ qs ready.
           let at : arrivals script t ms (keeping mid.mode.keep old) qs ≡ arrivals script t ms S qs = sym (comes.arrives qs) in
           subst (λ (l : List ObjNo). AreReady (priority_of new) l after)
@@ -240,20 +218,19 @@ none_dead m S none = refl
 keeps_closed : (dying : Bool) (h : Holder) (o : ObjNo) (mode : Mode)
     → (mode_after (if dying then Some o else None) mode).keep
     ≡ (mode.keep && is_deathless (closed_effects dying h o ++ []))
-keeps_closed true h o mode = nothing_kept mode.keep
-keeps_closed false h o mode = own_choice mode.keep
+keeps_closed true h o mode = sym (and-false mode.keep)
+keeps_closed false h o mode = sym (and-true mode.keep)
 
 keeps_by : (script : Script) (t : ObjNo) (m : Move) (S : State) (mode : Mode)
     → (mode_after (dead_by m S) mode).keep ≡ (mode.keep && is_deathless (told m S ++ []))
 keeps_by script t (Lose h o) S mode = keeps_closed (dies S o) h o mode
 keeps_by script t (Pay (Close h o)) S mode = keeps_closed (dies S o) h o mode
-keeps_by script t (Pay (Sweep o)) S mode = own_choice mode.keep
-keeps_by script t m S mode = own_choice mode.keep ∙ sym (ap (λ (b : Bool). mode.keep && b) (silent script t (m ∷ []) S refl))
+keeps_by script t (Pay (Sweep o)) S mode = sym (and-true mode.keep)
+keeps_by script t m S mode = sym (and-true mode.keep) ∙ sym (ap (λ (b : Bool). mode.keep && b) (silent script t (m ∷ []) S refl))
 
 -- what is told but for a death doesn't ask the choice
 alive_same : (m : Move) (keep : Bool) (S : State) → told_alive m (keeping keep S) ≡ told_alive m S
 alive_same (Pay (Close h o)) keep S = refl
-alive_same (Pay (Sweep o)) keep S = refl
 alive_same m keep S = refl
 
 pub told_both : {W N : Type 0} (m : Move) (old new : Tables W N)
@@ -308,7 +285,6 @@ still_kept script t m old new same goes kept is = record {
 made_moved : (t : ObjNo) (m : Move) (S : State) → (moved t m S).references.made ≡ S.references.made + making_bit m
 made_moved t (Make kind name h) S = omega arith
 made_moved t (Pay (Close h o)) S = omega arith
-made_moved t (Pay (Sweep o)) S = omega arith
 made_moved t _ S = omega arith
 
 pub made_performed : (t : ObjNo) (ms : List Move) (S : State) → (perform t ms S).references.made ≡ S.references.made + total making_bit ms
@@ -319,7 +295,6 @@ made_performed t (m ∷ ms) S = let first = made_moved t m S in let rest = made_
 can_room : (t : ObjNo) (m : Move) (S : State) → CanMove t m S → 0 < making_bit m → next_number S.mode.reuse S.references.objects < OBJECTS
 can_room t (Make kind name h) S can some = can.2.room
 can_room t (Pay (Close h o)) S can some = absurd (omega arith)
-can_room t (Pay (Sweep o)) S can some = absurd (omega arith)
 can_room t _ S can some = absurd (omega arith)
 
 -- and so a place in the words
@@ -415,7 +390,7 @@ module _ (script : Script) (t : ObjNo) (ms : List Move) (old : State) (before : 
       let T = perform t h.made U in
       let most = few keep in
       let all : length (tell t h.made U ++ tell t (m ∷ rest) T) ≡ length (tell t ms U) =
-      ap length (sym (tell_append t h.made (m ∷ rest) U)) ∙ ap (λ (l : List Move). length (tell t l U)) h.whole in
+      ap length (sym (tell-both t h.made (m ∷ rest) U)) ∙ ap (λ (l : List Move). length (tell t l U)) h.whole in
       let outer = length-append (tell t h.made U) (tell t (m ∷ rest) T) in
       let inner = length-append (told m T) (tell t rest (moved t m T)) in
       let here : length (told m (keeping keep S)) ≡ length (told m T) = ap (λ (V : State). length (told m V)) (sym comes.moves) in
@@ -483,9 +458,9 @@ module _ (script : Script) (t : ObjNo) (ms : List Move) (old : State) (before : 
       let T = perform t h.made U in
       let most = few keep in
       let all : length (tell t h.made U ++ tell t (ns ++ rest) T) ≡ length (tell t ms U) =
-      ap length (sym (tell_append t h.made (ns ++ rest) U)) ∙ ap (λ (l : List Move). length (tell t l U)) h.whole in
+      ap length (sym (tell-both t h.made (ns ++ rest) U)) ∙ ap (λ (l : List Move). length (tell t l U)) h.whole in
       let outer = length-append (tell t h.made U) (tell t (ns ++ rest) T) in
-      let split = ap length (tell_append t ns rest T) in
+      let split = ap length (tell-both t ns rest T) in
       let inner = length-append (tell t ns T) (tell t rest (perform t ns T)) in
       let here : length (tell t ns (keeping keep S)) ≡ length (tell t ns T) = ap (λ (V : State). length (tell t ns V)) (sym comes.moves) in
       let so_far : length effects ≡ length (was ++ tell t h.made U) = ap length (h.performed.told ∙ ap (λ (l : List Effect). was ++ l) (sym comes.tells)) in

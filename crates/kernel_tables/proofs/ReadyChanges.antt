@@ -24,9 +24,11 @@ use Rattle.machine.specs.Tick.{moved_behind}
 use Rattle.nano.specs.Choice.{chosen, after_tick, rotated_at}
 use Rattle.kernel_tables.specs.Moved.{AreKnown}
 use Rattle.kernel_tables.specs.ReadyQueues.{AreReady, Follow, pairs, leave}
-use Rattle.kernel_tables.proofs.ReadyLists.{listed_behind, apart_behind, apart_filtered, filtered_listed, without_unlisted, itself_stays}
+use Rattle.kernel_tables.proofs.ReadyLists.{listed_behind, filtered_listed, without_unlisted, itself_stays}
 use Rattle.kernel_tables.proofs.ReadyRows.{rowless_unready}
-use Rattle.kernel_tables.proofs.ReadyQueues.{picked_queued, turned_queued, removed_queued, added_queued, ready_queued, chosen_priority, chosen_listed}
+use Rattle.kernel_tables.proofs.ReadyQueues.{picked_queued, turned_queued, removed_queued, added_queued, ready_queued, chosen_priority}
+use Rattle.move_laws.proofs.Readiness.ReadyLists.{apart-push, apart-filter}
+use Rattle.move_laws.proofs.Readiness.FirstReady.{greatest_listed}
 
 -- a thread that stands in no queue isn't listed, and one that stands in some is
 absent_listed : (rank : ObjNo → ℕ) (qs : List ObjNo) (r : Ready) (t : ObjNo) → AreReady rank qs r
@@ -38,7 +40,7 @@ pub ready_behind : (rank : ObjNo → ℕ) (qs : List ObjNo) (r : Ready) (t : Obj
     → is_listed qs t ≡ false → AreReady rank qs r → AreReady rank (qs ++ t ∷ []) (added r t (rank t))
 ready_behind rank qs r t known low none h = record {
   queues = added_queued rank qs r t low h.queues;
-  once = apart_behind qs t h.once none;
+  once = apart-push qs t h.once none;
   known = λ u listed. elim (listed_behind qs t u listed) as (λ _. u.0 < BOOT_OBJECTS) [
     | inl before ↦ h.known u before
     | inr is ↦ subst (λ (o : ObjNo). o.0 < BOOT_OBJECTS) is known
@@ -101,7 +103,7 @@ absent_leaves rank r t absent qs h = leaves_absent rank qs r t (absent_listed ra
 pub thread_leaves : (rank : ObjNo → ℕ) (r : Ready) (t : ObjNo) → Follow rank (unlisted t) r (removed r t)
 thread_leaves rank r t qs h = record {
   queues = removed_queued rank qs r t h.queues;
-  once = apart_filtered _ qs h.once;
+  once = apart-filter _ qs h.once;
   known = λ u listed. h.known u (filtered_listed _ qs u listed).0;
   size = h.size;
 }
@@ -158,10 +160,10 @@ queue_turns nano rank r t p free is at qs h =
     let chosen = chosen_by rank qs r t h is in
     let own : Some p ≡ Some (rank t) = at ∙ chosen_priority rank qs r t h.once h.queues chosen in
     let same : p ≡ rank t = cc in
-    let listed = chosen_listed rank qs t chosen in
+    let listed = greatest_listed rank qs t chosen in
     let behind : AreReady rank (moved_behind qs (Some t)) (rotated r (rank t)) = record {
       queues = turned_queued rank qs r t h.once h.queues chosen;
-      once = apart_behind (unlisted t qs) t (apart_filtered _ qs h.once) (gone qs t);
+      once = apart-push (unlisted t qs) t (apart-filter _ qs h.once) (gone qs t);
       known = λ u again. elim (listed_behind (unlisted t qs) t u again) as (λ _. u.0 < BOOT_OBJECTS) [
         | inl before ↦ h.known u (filtered_listed _ qs u before).0
         | inr here ↦ subst (λ (o : ObjNo). o.0 < BOOT_OBJECTS) here (h.known t listed)

@@ -1,7 +1,7 @@
 -- Lists of threads: who stands in one after a thread came or left, and each once.
 use Rattle.std.proofs.Common.{◌≡◌, inl, inr, ◌⊎◌, ℕ, Bool, true, false, List, [], ◌∷◌, ◌++◌, refl, sym, ap, ◌∙◌}
 use Rattle.std.specs.Prelude.{◌==◌, ◌||◌, not, filter, if◌then◌else◌}
-use Rattle.std.proofs.lemmas.Bool.{cases_Bool, eq-eqb, eqb-true, or_parts, or_from, or_left, or_right}
+use Rattle.std.proofs.lemmas.Bool.{cases_Bool, eq-eqb, eqb-true, or_parts, or_from, or_left, or_right, not-true}
 use Rattle.sym_base.specs.declared.number.ObjNo.{ObjNo}
 use Rattle.script_types.specs.declared.script.Script.{Script}
 use Rattle.machine.specs.declared.moves.Move.{Move}
@@ -10,7 +10,6 @@ use Rattle.machine.specs.declared.moves.Move.TheVariants.{SetPriority, Pay}
 use Rattle.machine.specs.declared.state.State.{State}
 use Rattle.machine.specs.Arrivals.{is_listed, unlisted, touched, taken_out}
 use Rattle.machine.specs.Task.{is_ready}
-use Rattle.machine.specs.WellFormed.{AreApart}
 use Rattle.kernel_tables.specs.Moved.{is_set}
 use Rattle.kernel_tables.specs.ReadyQueues.{leave, leave_along}
 
@@ -32,22 +31,6 @@ listed_behind (q ∷ qs) u t h = elim (cases_Bool (q.0 == t.0)) [
   ]
 ]
 
--- one more that wasn't there
-pub apart_behind : (qs : List ObjNo) (u : ObjNo) → AreApart qs → is_listed qs u ≡ false → AreApart (qs ++ u ∷ [])
-apart_behind [] u apart none = (refl, tt)
-apart_behind (q ∷ qs) u apart none =
-    let parts = or_parts (q.0 == u.0) (is_listed qs u) none in
-    (not_behind qs u q apart.0 parts.0, apart_behind qs u apart.1 parts.1)
-  where
-    not_behind : (qs : List ObjNo) (u q : ObjNo) → is_listed qs q ≡ false → (q.0 == u.0) ≡ false → is_listed (qs ++ u ∷ []) q ≡ false
-    not_behind [] u q none other = elim (cases_Bool (u.0 == q.0)) as (λ _. (u.0 == q.0) || false ≡ false) [
-      | inl same ↦ let e = eqb-true u.0 q.0 same in let f = eq-eqb q.0 u.0 (sym e) in absurd (cc)
-      | inr apart ↦ rw apart refl
-    ]
-    not_behind (x ∷ xs) u q none other =
-        let parts = or_parts (x.0 == q.0) (is_listed xs q) none in
-        or_from (x.0 == q.0) (is_listed (xs ++ u ∷ []) q) parts.0 (not_behind xs u q parts.1 other)
-
 -- who stands in a filtered list stands in the whole, and passes
 pub filtered_listed : (p : ObjNo → Bool) (qs : List ObjNo) (t : ObjNo) → is_listed (filter p qs) t ≡ true → (is_listed qs t ≡ true) × (p t ≡ true)
 filtered_listed p [] t h = let clash : false ≡ true = h in absurd (cc)
@@ -62,20 +45,6 @@ filtered_listed p (q ∷ qs) t h = elim (cases_Bool (p q)) as (λ _. (is_listed 
       let rest = filtered_listed p qs t (rw fails at h) in
       (or_right (q.0 == t.0) (is_listed qs t) rest.0, rest.1)
 ]
-
--- a filtered list has each once too
-pub apart_filtered : (p : ObjNo → Bool) (qs : List ObjNo) → AreApart qs → AreApart (filter p qs)
-apart_filtered p [] apart = tt
-apart_filtered p (q ∷ qs) apart = elim (cases_Bool (p q)) [
-  | inl passes ↦ rw passes (none_filtered p qs q apart.0, apart_filtered p qs apart.1)
-  | inr fails ↦ rw fails (apart_filtered p qs apart.1)
-]
-  where
-    none_filtered : (p : ObjNo → Bool) (qs : List ObjNo) (t : ObjNo) → is_listed qs t ≡ false → is_listed (filter p qs) t ≡ false
-    none_filtered p qs t none = elim (cases_Bool (is_listed (filter p qs) t)) as (λ _. is_listed (filter p qs) t ≡ false) [
-      | inl some ↦ let all = filtered_listed p qs t some in absurd (cc)
-      | inr none_left ↦ none_left
-    ]
 
 -- where all pass, the filtered list is the whole
 filter_all : (p : ObjNo → Bool) (qs : List ObjNo) → ((t : ObjNo) → is_listed qs t ≡ true → p t ≡ true) → filter p qs ≡ qs
@@ -166,16 +135,12 @@ leave_append script S [] vs qs = refl
 leave_append script S (u ∷ us) vs qs = leave_append script S us vs (if is_ready script S u then qs else unlisted u qs)
 
 -- who is listed once a move took a thread out was listed, and its priority isn't set
-not_true : (b : Bool) → not b ≡ true → b ≡ false
-not_true true h = absurd (cc)
-not_true false h = refl
-
 pub taken_listed : (m : Move) (qs : List ObjNo) (u : ObjNo) → is_listed (taken_out m qs) u ≡ true → is_listed qs u ≡ true
 taken_listed (SetPriority v priority) qs u listed = (filtered_listed (λ q. not (q.0 == v.0)) qs u listed).0
 taken_listed (Pay (Sweep o)) qs u listed = (filtered_listed (λ q. not (q.0 == o.0)) qs u listed).0
 taken_listed _ qs u listed = listed
 
 pub taken_unset : (m : Move) (qs : List ObjNo) (u : ObjNo) → is_listed (taken_out m qs) u ≡ true → is_set m u ≡ false
-taken_unset (SetPriority v priority) qs u listed = not_true (u.0 == v.0) (filtered_listed (λ q. not (q.0 == v.0)) qs u listed).1
-taken_unset (Pay (Sweep o)) qs u listed = not_true (u.0 == o.0) (filtered_listed (λ q. not (q.0 == o.0)) qs u listed).1
+taken_unset (SetPriority v priority) qs u listed = not-true (u.0 == v.0) (filtered_listed (λ q. not (q.0 == v.0)) qs u listed).1
+taken_unset (Pay (Sweep o)) qs u listed = not-true (u.0 == o.0) (filtered_listed (λ q. not (q.0 == o.0)) qs u listed).1
 taken_unset _ qs u listed = refl

@@ -136,10 +136,6 @@ pub chosen_ranged : (rank : ObjNo → ℕ) (qs : List ObjNo) (r : Ready) (q : Ob
     → first_of_greatest rank qs ≡ Some q → rank q < 64
 chosen_ranged rank qs r q are some = found_ranged rank (rank q) qs q are.ranged (chosen_first rank qs q some)
 
--- the chosen thread is listed
-pub chosen_listed : (rank : ObjNo → ℕ) (qs : List ObjNo) (q : ObjNo) → first_of_greatest rank qs ≡ Some q → is_listed qs q ≡ true
-chosen_listed rank qs q some = found_listed rank (rank q) qs q (chosen_first rank qs q some)
-
 -- a time slice ends: the queue of the chosen thread's priority turns
 pub turned_queued : (rank : ObjNo → ℕ) (qs : List ObjNo) (r : Ready) (q : ObjNo) → AreApart qs
     → AreQueuesOf (pairs rank qs) r → first_of_greatest rank qs ≡ Some q
