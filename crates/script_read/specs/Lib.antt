@@ -4,6 +4,7 @@ pub mod FileNames
 pub mod FirstBad
 pub mod Judging
 pub mod LineByLine
+pub mod NameNumbers
 pub mod Progress
 pub mod Reasons
 pub mod Refusal

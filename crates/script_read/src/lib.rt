@@ -9,6 +9,7 @@ mod judge;
 mod known;
 mod law;
 mod limits;
+mod name_set;
 mod order;
 mod progress;
 mod read;

@@ -1,16 +1,16 @@
 //! Whether a line may stand behind those so far: its kind of thread, its names and its limits.
-ghost use Rattle.std.specs.Prelude.{◌≡◌, ◌+◌, ◌==◌, ◌≤◌, ◌<◌, length, take};
+ghost use Rattle.std.specs.Prelude.{◌≡◌, ◌+◌, ◌==◌, ◌≤◌, ◌<◌, ◌||◌, not, length, take, IfOk, IsTrue, List, ℕ, codes};
 ghost use Rattle.std.specs.List.{list_any};
 ghost use Rattle.std.specs.Str.{bytes_eq};
-ghost use Rattle.script_types.specs.Names.{has_rank, is_new, is_thread_name, is_process_name};
+ghost use Rattle.script_read.specs.NameNumbers.{lists_name, IsNameText, ListsThreads};
+ghost use Rattle.script_types.specs.Context.{after};
+ghost use Rattle.script_types.specs.Names.{has_rank, is_new, is_process_name};
 ghost use Rattle.script_types.specs.Stands.{is_kernel_only, is_right_kind};
 
-use script_types::{
-    Context, DfcDecl, IdfcDecl, Instr, IrqBody, ProcessDecl, QueueDecl, Script, SourceLine,
-    ThreadDecl,
-};
+use crate::name_set::NameSet;
+use script_types::{Context, DfcDecl, IdfcDecl, Instr, IrqBody, ProcessDecl, Script, SourceLine};
 use script_words::is_word;
-use sym_base::Name;
+use sym_base::{Name, NoMemory};
 
 /// Whether an instruction is one of kernel threads alone.
 fn is_kernel_only(what: &Instr) -> bool
@@ -48,20 +48,6 @@ pub fn is_right_kind(context: &Context, line: &SourceLine) -> bool
     }
 }
 
-/// Whether a queue has this name.
-fn is_queue_name(queues: &[QueueDecl], name: &Name) -> bool
-    ensures { result ≡ list_any (λ queue. bytes_eq name.now queue.name) queues.now }
-{
-    queues.iter().any(|queue| name.is(&queue.name))
-}
-
-/// Whether a thread has this name.
-fn is_declared_thread(threads: &[ThreadDecl], name: &Name) -> bool
-    ensures { result ≡ list_any (λ thread. bytes_eq name.now thread.name) threads.now }
-{
-    threads.iter().any(|thread| name.is(&thread.name))
-}
-
 /// Whether a process has this name.
 fn is_declared_process(processes: &[ProcessDecl], name: &Name) -> bool
     ensures { result ≡ list_any (λ process. bytes_eq name.now process.name) processes.now }
@@ -90,15 +76,6 @@ fn has_body(irqs: &[IrqBody], number: u8) -> bool
     irqs.iter().any(|irq| irq.number == number)
 }
 
-/// Whether a thread, a queue's thread or the supervisor has this name.
-fn is_thread_name(script: &Script, name: &Name) -> bool
-    ensures { result ≡ is_thread_name script.now name.now }
-{
-    is_word(name.as_slice(), "supervisor")
-        || is_queue_name(script.queues.as_slice(), name)
-        || is_declared_thread(script.threads.as_slice(), name)
-}
-
 /// Whether a process, or the kernel's, has this name.
 fn is_process_name(script: &Script, name: &Name) -> bool
     ensures { result ≡ is_process_name script.now name.now }
@@ -106,21 +83,37 @@ fn is_process_name(script: &Script, name: &Name) -> bool
     is_word(name.as_slice(), "kernel") || is_declared_process(script.processes.as_slice(), name)
 }
 
-/// Whether a line declares what no earlier line declared.
-pub fn is_new(context: &Context, line: &SourceLine) -> bool
-    ensures { result ≡ is_new context.now line.now }
+/// Whether a thread may have this name: none so far has it, no queue's, and not the supervisor. Then it is added.
+fn add_thread(threads: &mut NameSet, name: &Name) -> Result<bool, NoMemory>
+    ensures new { IfOk result (λ is_new. is_new ≡ not (bytes_eq name.now (codes "supervisor") || lists_name threads.old name.now)) }
+    ensures more { IfOk result (λ is_new. IsTrue is_new → (other : List ℕ) → IsNameText other →
+        lists_name threads.new other ≡ (lists_name threads.old other || bytes_eq other name.now)) }
+    ensures text { IsNameText name.now }
+{
+    if is_word(name.as_slice(), "supervisor") {
+        return Ok(false);
+    }
+    threads.insert(name)
+}
+
+/// Whether a line declares what no earlier line declared. The name of its thread is added to those of the threads so far.
+#[tactic(auto, using(crate::proofs::ListedThreads::listed_more, crate::proofs::ListedThreads::listed_other, crate::proofs::ListedThreads::new_thread))]
+pub fn is_new(threads: &mut NameSet, context: &Context, line: &SourceLine) -> Result<bool, NoMemory>
+    requires { ListsThreads threads.old context.now.script }
+    ensures new { IfOk result (λ test. test ≡ is_new context.now line.now) }
+    ensures listed { IfOk result (λ test. IsTrue test → ListsThreads threads.new (after context.now line.now).script) }
 {
     let script = &context.script;
     match line {
-        SourceLine::Pool(_) => !has_rank(context.rank, 1),
-        SourceLine::Fast(_) => !has_rank(context.rank, 2),
-        SourceLine::Queue(name, _) => !is_thread_name(script, name),
-        SourceLine::Dfc(name, _, _, _) => !is_declared_dfc(script.dfcs.as_slice(), name),
-        SourceLine::Idfc(name, _) => !is_declared_idfc(script.idfcs.as_slice(), name),
-        SourceLine::IrqBody(number, _) => !has_body(script.irqs.as_slice(), *number),
-        SourceLine::KernelThread(name, _, _) => !is_thread_name(script, name),
-        SourceLine::Process(name) => !is_process_name(script, name),
-        SourceLine::Thread(name, _, _) => !is_thread_name(script, name),
-        _ => true,
+        SourceLine::Pool(_) => Ok(!has_rank(context.rank, 1)),
+        SourceLine::Fast(_) => Ok(!has_rank(context.rank, 2)),
+        SourceLine::Queue(name, _) => add_thread(threads, name),
+        SourceLine::Dfc(name, _, _, _) => Ok(!is_declared_dfc(script.dfcs.as_slice(), name)),
+        SourceLine::Idfc(name, _) => Ok(!is_declared_idfc(script.idfcs.as_slice(), name)),
+        SourceLine::IrqBody(number, _) => Ok(!has_body(script.irqs.as_slice(), *number)),
+        SourceLine::KernelThread(name, _, _) => add_thread(threads, name),
+        SourceLine::Process(name) => Ok(!is_process_name(script, name)),
+        SourceLine::Thread(name, _, _) => add_thread(threads, name),
+        _ => Ok(true),
     }
 }

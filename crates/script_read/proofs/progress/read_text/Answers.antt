@@ -7,7 +7,8 @@ use Rattle.script_read.proofs.ProgressLaws.{read_to_start, read_to_end}
 use Rattle.script_read.proofs.progress.read_text.Goals as goal
 
 pub loop-rest-init : goal.loop-rest-init
-loop-rest-init c = read_to_start c.args.text.now c.new-progress.result c.new-progress.ensures.context c.new-progress.ensures.steady c.new-progress.ensures.text
+loop-rest-init c = read_to_start c.args.text.now c.new-progress.result c.new-progress.ensures.context
+    c.new-progress.ensures.steady c.new-progress.ensures.listed c.new-progress.ensures.text
 
 pub returns : goal.returns
 returns c =
