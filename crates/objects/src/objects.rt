@@ -100,7 +100,8 @@ impl<W: RefWords + Drop> Objects<W> {
     }
 
     /// Makes an object of a kind with a name, which has one reference. A session's name isn't looked at. Where
-    /// it makes one, the words have a place for it.
+    /// it makes one, the words have a place for it. It is copied into the actions' loop over moves, though boot calls it too.
+    #[inline(always)]
     pub fn make(&mut self, kind: Kind, name: &Name) -> Made
         requires place { (o : ObjNo) → made_answer self.old.reuse kind name.now self.old.rows ≡ Made.Made o → next_place self.old.reuse self.old.rows self.old.made < length (W.meaning self.old.words).own }
         ensures answer { result ≡ made_answer self.old.reuse kind name.now self.old.rows }

@@ -70,7 +70,8 @@ impl<W: RefWords + Drop> ObjectTable<W> {
     }
 
     /// Makes an object with one reference. It answers the number. A session has no name: the one given is empty. The words have a
-    /// place for it.
+    /// place for it. It is copied into the actions' loop over moves, though boot calls it too.
+    #[inline(always)]
     pub fn make(&mut self, kind: Kind, name: &Name) -> ObjNo
         requires named { kept_name kind name.now ≡ name.now }
         requires fresh { is_taken kind name.now self.old.rows ≡ false }
