@@ -1,5 +1,5 @@
 -- A kernel goes on: after an actor's action its core stands for one entry more.
-use Rattle.std.proofs.Common.{◌≡◌, ◌+◌, List, [], ◌∷◌, ◌++◌, length, Bool, true, false, None, refl, sym, ap, subst, ◌∙◌}
+use Rattle.std.proofs.Common.{◌≡◌, ℕ, ◌+◌, List, [], ◌∷◌, ◌++◌, length, Bool, true, false, None, refl, sym, ap, subst, ◌∙◌}
 use Rattle.std.specs.Prelude.{◌&&◌}
 use Rattle.sym_base.specs.declared.number.ObjNo.{ObjNo}
 use Rattle.script_types.specs.declared.script.Script.{Script}
@@ -24,7 +24,7 @@ use Rattle.machine_laws.proofs.Reached.Modes.{able-keeping, kept-same, shared-af
 use Rattle.kernel_tables.specs.Choosing.{sharing}
 use Rattle.kernel_tables.specs.CoreView.{CoreView, RunsScript}
 use Rattle.kernel_tables.specs.ReadyQueues.{AreReady}
-use Rattle.kcore.specs.Acting.{Went}
+use Rattle.kcore.specs.Acting.{Went, WentAt}
 use Rattle.kcore.proofs.ActionsDone.{idle_does}
 
 -- a core that stands for the state after a history, in which nothing is chosen yet
@@ -156,13 +156,18 @@ begins-fresh shared script old mid valid h state ready = record {
   queues = queues-shared old mid (arrived_in shared script []) state ready h.queues;
 }
 
--- nobody acts: an entry of nobody comes behind the history, and the core stays
-pub rested : {W : Type 0} (script : Script) (history new : List Entry) (core : CoreView W)
-    → new ≡ history ++ entry_of (length history + 1) Idle (record { step = Wait; effects = []; answer = None }) ∷ []
-    → Went script history new core core Idle
-rested script history new core longer = record {
-  entry = entry_of (length history + 1) Idle (record { step = Wait; effects = []; answer = None });
+-- nobody acts: an entry of nobody, of this place, comes behind others, and the core stays
+pub rested-at : {W : Type 0} (script : Script) (place : ℕ) (entries new : List Entry) (core : CoreView W)
+    → new ≡ entries ++ entry_of place Idle (record { step = Wait; effects = []; answer = None }) ∷ []
+    → WentAt script place entries new core core Idle
+rested-at script place entries new core longer = record {
+  entry = entry_of place Idle (record { step = Wait; effects = []; answer = None });
   longer = longer;
   told = refl;
   does = idle_does script core (record { step = Wait; effects = []; answer = None }) refl;
 }
+
+pub rested : {W : Type 0} (script : Script) (history new : List Entry) (core : CoreView W)
+    → new ≡ history ++ entry_of (length history + 1) Idle (record { step = Wait; effects = []; answer = None }) ∷ []
+    → Went script history new core core Idle
+rested script history new core longer = rested-at script (length history + 1) history new core longer

@@ -64,7 +64,7 @@ module _ {W : Type 0} (script : Script) (history : List Entry) (old : CoreView W
     pub alone-follows : Follows false script new core
     alone-follows = follows false script history old alone-begins new core actor went can
 
-    alone-shared : core.state.mode.shared ≡ false
+    pub alone-shared : core.state.mode.shared ≡ false
     alone-shared = ap (λ (S : State). S.mode.shared) alone-follows.state ∙ alone_after script new
 
     pub alone-mode : mode_of core.state.mode.shared new ≡ Whole

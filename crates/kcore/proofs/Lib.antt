@@ -4,6 +4,7 @@ mod Backs
 mod BootCounts
 mod BootGroups
 mod BootNano
+mod BootPlaces
 mod BootProcs
 mod BootReady
 mod BootTables
@@ -21,4 +22,6 @@ pub mod NotesOut
 mod OutKernel
 mod OutSlots
 mod RunningOps
+pub mod Runs
+mod ScheduleGoes
 mod Sought

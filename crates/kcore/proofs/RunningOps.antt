@@ -29,11 +29,12 @@ use Rattle.machine.specs.ThreadCalls.{is_live}
 use Rattle.move_laws.proofs.Lists.Cases.{if_cases}
 use Rattle.machine_laws.proofs.Reached.Choices.{blind-all}
 use Rattle.machine_laws.proofs.Reached.Modes.{mode-perform}
+use Rattle.machine_laws.proofs.Sharing.Moved.{tell-both}
 use Rattle.table_moves.specs.Notes.{Notes}
 use Rattle.kernel_tables.specs.Choosing.{AreNotesMade, AreSoughtBeside, MayChoose, closing_bit}
 use Rattle.kernel_tables.specs.Moved.{MovesGo, making_bit}
 use Rattle.kernel_tables.specs.Performed.{IsPerformed}
-use Rattle.kernel_tables.proofs.Performing.{OnTheWay, calm_state, closes_all, closes_append, made-move, made_performed, moves_part, part_goes_on, performed_then, sought-move, tell_append, unchosen, way_begins, way_ends}
+use Rattle.kernel_tables.proofs.Performing.{OnTheWay, calm_state, closes_all, closes_append, made-move, made_performed, moves_part, part_goes_on, performed_then, sought-move, unchosen, way_begins, way_ends}
 
 -- 1 for a move that gives a reference up or makes an object
 abbrev quiet_bit : Move → ℕ
@@ -201,7 +202,7 @@ ops_few script t ms ops old mid effects none left told few keep =
     let ns = ops_moves script t (perform t ms old) ops in
     let blind = blind-all script t ms old (sym (closes_all ms) ∙ none) in
     let most = few keep in
-    let all : length (tell t (ms ++ ns) X) ≡ length (tell t ms X ++ tell t ns (perform t ms X)) = ap length (tell_append t ms ns X) in
+    let all : length (tell t (ms ++ ns) X) ≡ length (tell t ms X ++ tell t ns (perform t ms X)) = ap length (tell-both t ms ns X) in
     let long = length-append (tell t ms X) (tell t ns (perform t ms X)) in
     let so_far : length effects ≡ length (tell t ms X) = ap length (told ∙ (blind.tells mid.mode.keep ∙ sym (blind.tells keep))) in
     let here : length (tell t (ops_moves script t mid ops) (keeping keep mid)) ≡ length (tell t ns (perform t ms X)) =

@@ -1,5 +1,5 @@
 -- The action that an entry tells.
-use Rattle.std.specs.Prelude.{◌≡◌, ◌+◌, List, [], ◌∷◌, ◌++◌, length}
+use Rattle.std.specs.Prelude.{◌≡◌, ℕ, ◌+◌, List, [], ◌∷◌, ◌++◌, length}
 use Rattle.sym_base.specs.declared.number.ObjNo.{ObjNo}
 use Rattle.script_types.specs.declared.script.Script.{Script}
 use Rattle.entry_log.specs.declared.entry.Actor.{Actor}
@@ -16,9 +16,18 @@ abbrev pub acting : Actor → ObjNo
 acting (Thread t) = t
 acting _ = supervisor
 
--- an actor acted, and the entry that came behind a history tells it
-pub record Went {W : Type 0} (script : Script) (history new : List Entry) (old core : CoreView W) (actor : Actor) : Type 0 where
+-- an actor that isn't a thread
+abbrev pub IsNoThread : Actor → Type 0
+IsNoThread (Thread t) = ⊥
+IsNoThread _ = Unit {0}
+
+-- an actor acted, and the entry of this place that came behind others tells it
+pub record WentAt {W : Type 0} (script : Script) (place : ℕ) (entries new : List Entry) (old core : CoreView W) (actor : Actor) : Type 0 where
   pub entry : Entry
-  pub longer : new ≡ history ++ entry ∷ []
-  pub told : entry ≡ entry_of (length history + 1) actor (told_in entry)
+  pub longer : new ≡ entries ++ entry ∷ []
+  pub told : entry ≡ entry_of place actor (told_in entry)
   pub does : Acts script old core (told_in entry) actor
+
+-- and the others are the history before
+abbrev pub Went : {W : Type 0} → Script → List Entry → List Entry → CoreView W → CoreView W → Actor → Type 0
+Went script history new old core actor = WentAt script (length history + 1) history new old core actor

@@ -6,5 +6,6 @@ pub mod KernelMode
 pub mod KernelView
 pub mod OneMore
 pub mod Outgoing
+pub mod ScheduleView
 pub mod Sending
 pub mod Told

@@ -10,7 +10,7 @@ ghost use Rattle.exec_user.specs.Stepping.{IsAtStep, step_at};
 ghost use Rattle.kernel_tables.specs.Choosing.{MayChoose};
 ghost use Rattle.kernel_tables.specs.CoreView.{RunsScript};
 ghost use Rattle.kernel_tables.specs.ReadyQueues.{Follow};
-ghost use Rattle.kcore.specs.Acting.{acting};
+ghost use Rattle.kcore.specs.Acting.{acting, IsNoThread};
 ghost use Rattle.kcore.specs.Done.{Acts, CarriesOut};
 ghost use Rattle.kcore.specs.Told.{IsTold, told_in};
 
@@ -81,6 +81,34 @@ fn tick<W: RefWords + Drop>(core: &mut Core<W>, entry: &mut Entry)
     entry.answer = None;
 }
 
+/// An action of an actor that is no thread, and nobody's. Most actions are a thread's.
+#[cold]
+#[inline(never)]
+fn threadless_transition<W: RefWords + Drop>(
+    script: &Script,
+    core: &mut Core<W>,
+    actor: Actor,
+    entry: &mut Entry,
+)
+    requires runs { RunsScript script.now core.old }
+    requires may { MayChoose (acting actor) core.old.notes core.old.state }
+    requires can { CanAct script.now core.old.state actor }
+    requires none { IsNoThread actor }
+    requires empty { entry.old.effects ≡ [] }
+    requires blank { told_in entry.old ≡ record { step = Step.Wait; effects = []; answer = None } }
+    ensures told { IsTold entry.old entry.new }
+    ensures does { Acts script.now core.old core.new (told_in entry.new) actor }
+    ensures notes { core.new.notes ≡ core.old.notes }
+{
+    match actor {
+        Actor::Tick => tick(core, entry),
+        Actor::Irq(number) => interrupt(script, core, number, entry),
+        Actor::Idfc => immediate(script, core, entry),
+        Actor::Idle => {}
+        Actor::Thread(_thread) => {}
+    }
+}
+
 /// An action of an actor that isn't out, told by an entry that tells as yet that nobody acted.
 pub fn transition<W: RefWords + Drop>(
     script: &Script,
@@ -98,11 +126,9 @@ pub fn transition<W: RefWords + Drop>(
     ensures does { Acts script.now core.old core.new (told_in entry.new) actor }
     ensures notes { core.new.notes ≡ core.old.notes }
 {
-    match actor {
-        Actor::Thread(thread) => act(script, core, thread, entry),
-        Actor::Tick => tick(core, entry),
-        Actor::Irq(number) => interrupt(script, core, number, entry),
-        Actor::Idfc => immediate(script, core, entry),
-        Actor::Idle => {}
+    if let Actor::Thread(thread) = actor {
+        act(script, core, thread, entry);
+    } else {
+        threadless_transition(script, core, actor, entry);
     }
 }

@@ -26,7 +26,7 @@ use cleanup::Cleanup;
 use handles::Handles;
 use kern_sync::KernSync;
 use kernel_tables::{CallQueues, Core, ObjectTable, Tables};
-use machine::{Born, Mode, all_born, ready_at_boot, uses_again};
+use machine::{Born, Mode, all_born, ready_from, uses_again};
 use nano_sync::NanoSync;
 use procs::Procs;
 use ready_list::ReadyList;
@@ -90,16 +90,6 @@ fn queues_of(alloc: Global, all: &[Born], threads: &[ThreadNo]) -> Result<ReadyL
         list.add(*thread, priority_at(all, *thread));
     }
     Ok(list)
-}
-
-/// The queues of the threads that are ready at boot.
-fn queues_at_boot(alloc: Global, script: &Script, all: &[Born]) -> Result<ReadyList, NoMemory>
-    requires valid { IsWellFormed script.now }
-    requires born { all.now ≡ born script.now }
-    ensures { IfOk result (λ list. AreReady (born_priority all.now) (ready_at_boot script.now) list) }
-{
-    let threads = ready_at_boot(alloc, script)?;
-    queues_of(alloc, all, threads.as_slice())
 }
 
 /// The handle tables, which are empty, and the lists of what each owes and has, which have nothing.
@@ -231,8 +221,10 @@ pub fn boot<W: RefWords + Drop>(
     ensures queues { IfOk result (λ core. AreReady (priority_of (boot script.now)) (ready_at_boot script.now) core.ready) }
     ensures notes { IfOk result (λ core. core.notes ≡ no_notes (W.meaning words).identity (length (W.meaning words).own)) }
 {
-    let all = all_born(alloc, script)?;
-    let ready = queues_at_boot(alloc, script, all.as_slice())?;
-    let tables = tables_at_boot(alloc, script, words, all.as_slice())?;
+    let born = all_born(alloc, script)?;
+    let all = born.as_slice();
+    let threads = ready_from(alloc, all)?;
+    let ready = queues_of(alloc, all, threads.as_slice())?;
+    let tables = tables_at_boot(alloc, script, words, all)?;
     Ok(Core::new(tables, ready))
 }

@@ -12,7 +12,7 @@ ghost use Rattle.table_moves.specs.Notes.{IsNoteOut, notes_back};
 ghost use Rattle.kernel_tables.specs.Choosing.{MayChoose};
 ghost use Rattle.kernel_tables.specs.CoreView.{RunsScript};
 ghost use Rattle.kernel_tables.specs.ReadyQueues.{pairs};
-ghost use Rattle.kcore.specs.Acting.{acting, Went};
+ghost use Rattle.kcore.specs.Acting.{acting, Went, WentAt};
 ghost use Rattle.kcore.specs.Finds.{found_in, seek_in};
 ghost use Rattle.kcore.specs.Sending.{MayComeBack, MaySend, notes_after, slip_after};
 
@@ -66,7 +66,17 @@ pub fn is_nobody(actor: Actor) -> bool
     matches!(actor, Actor::Idle)
 }
 
-/// Nobody acts, told by one entry more.
+/// Nobody acts, told by one entry more, of this place in the history.
+#[inline(always)]
+pub fn rest_at(entries: &mut Vec<Entry>, place: u32)
+    requires { length entries.old.items < vec_capacity entries.old }
+    ensures longer { entries.new.items ≡ entries.old.items ++ entry_of place Actor.Idle (record { step = Step.Wait; effects = []; answer = None }) ∷ [] }
+    ensures capacity { vec_capacity entries.new ≡ vec_capacity entries.old }
+{
+    entries.push_reserved(new_entry(place, Actor::Idle));
+}
+
+/// The same behind a whole history.
 #[inline(always)]
 pub fn rest(history: &mut Vec<Entry>)
     requires few { length history.old.items < SHARED_HISTORY }
@@ -75,10 +85,32 @@ pub fn rest(history: &mut Vec<Entry>)
     ensures capacity { vec_capacity history.old ≤ vec_capacity history.new }
 {
     let place = history.as_slice().len() as u32 + 1;
-    history.push_reserved(new_entry(place, Actor::Idle));
+    rest_at(history, place);
 }
 
-/// One atomic action of an actor that may act and isn't out, told by one entry more.
+/// One atomic action of an actor that may act and isn't out, told by one entry more, of this place in the history.
+pub fn go_at<W: RefWords + Drop>(
+    script: &Script,
+    core: &mut Core<W>,
+    entries: &mut Vec<Entry>,
+    place: u32,
+    actor: Actor,
+)
+    requires runs { RunsScript script.now core.old }
+    requires may { MayChoose (acting actor) core.old.notes core.old.state }
+    requires can { CanAct script.now core.old.state actor }
+    requires stays { is_out_actor core.old.state actor ≡ false }
+    requires room { length entries.old.items < vec_capacity entries.old }
+    ensures went { WentAt script.now place entries.old.items entries.new.items core.old core.new actor }
+    ensures notes { core.new.notes ≡ core.old.notes }
+    ensures capacity { vec_capacity entries.new ≡ vec_capacity entries.old }
+{
+    let at = entries.as_slice().len();
+    entries.push_reserved(new_entry(place, actor));
+    transition(script, core, actor, &mut entries[at]);
+}
+
+/// The same behind a whole history.
 pub fn go<W: RefWords + Drop>(
     script: &Script,
     core: &mut Core<W>,
@@ -95,9 +127,8 @@ pub fn go<W: RefWords + Drop>(
     ensures notes { core.new.notes ≡ core.old.notes }
     ensures capacity { vec_capacity history.old ≤ vec_capacity history.new }
 {
-    let at = history.as_slice().len();
-    history.push_reserved(new_entry(at as u32 + 1, actor));
-    transition(script, core, actor, &mut history[at]);
+    let place = history.as_slice().len() as u32 + 1;
+    go_at(script, core, history, place, actor);
 }
 
 /// A thread comes back from a find with the note of it, told by one entry more.

@@ -11,7 +11,7 @@ ghost use Rattle.machine.specs.Arrived.{arrived, arrived_in};
 ghost use Rattle.machine.specs.Out.{is_out};
 ghost use Rattle.machine.specs.Task.{is_able};
 ghost use Rattle.machine.specs.History.{after, after_in, entry_by, CanAct, IsIdle, IsLegal, IsLegalIn, IsShared};
-ghost use Rattle.machine.specs.Run.{slot_actor};
+ghost use Rattle.machine.specs.Run.{run, slot_actor};
 ghost use Rattle.machine_safe.specs.FindsAndReturns.{away, is_out_actor};
 ghost use Rattle.machine_safe.specs.ReadyHolders.{AreHoldersReady, AreHoldersReadyIn};
 ghost use Rattle.machine_safe.specs.Safe.{IsSafe, IsSafeIn};
@@ -27,6 +27,7 @@ ghost use Rattle.kcore.specs.Sending.{notes_after};
 use crate::boot;
 use crate::final_rows::next_row;
 use crate::going::{found_in, go, go_back, is_nobody, rest, send, slot_actor};
+use crate::schedule_run::ScheduleRun;
 use entry_log::{Actor, Entry, FinalRow};
 use kernel_tables::Core;
 use next_actions::declares_interrupt;
@@ -273,6 +274,30 @@ impl<W: RefWords + Drop> Kernel<W> {
 }
 
 impl Kernel<PlainWords> {
+    /// The kernel that has run the whole schedule of a script, each slot of which made one entry. It has room for no more.
+    pub fn after_run(alloc: Global, script: Script) -> Result<Kernel<PlainWords>, NoMemory>
+        requires { IsWellFormed script }
+        ensures script { IfOk result (λ kernel. kernel.script ≡ script) }
+        ensures history { IfOk result (λ kernel. kernel.history ≡ run script) }
+        ensures room { IfOk result (λ kernel. kernel.room ≡ length script.slots) }
+        ensures mode { IfOk result (λ kernel. Suits false kernel.mode) }
+        ensures legal { IfOk result (λ kernel. IsLegal kernel.script kernel.history) }
+        ensures safe { IfOk result (λ kernel. IsSafe kernel.script kernel.history) }
+        ensures holders { IfOk result (λ kernel. AreHoldersReady kernel.script kernel.history) }
+    {
+        let room = script.slots.len() as u32;
+        let mut run = ScheduleRun::boot(alloc, script, room)?;
+        run.next_part();
+        Ok(Kernel {
+            script: run.script,
+            core: run.core,
+            history: run.part,
+            out: 0,
+            idle: run.idle,
+            room,
+        })
+    }
+
     /// Whether the kernel is marked as idle, and a slot lets the chosen actor act: nobody.
     #[inline(always)]
     fn is_pause(&self, slot: Slot) -> bool

@@ -15,6 +15,8 @@ mod kernel;
 mod made;
 mod places;
 mod plans;
+mod schedule_run;
 
 pub use kernel::Kernel;
 pub use places::places_for;
+pub use schedule_run::ScheduleRun;

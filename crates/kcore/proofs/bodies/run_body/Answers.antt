@@ -4,7 +4,8 @@ use Rattle.machine.specs.Bodies.{leave_queue, ops_moves, ops_of, run_body}
 use Rattle.machine.specs.History.{keeping}
 use Rattle.machine.specs.Moves.{perform, tell}
 use Rattle.machine_laws.proofs.Fitting.Bodies.{short_body}
-use Rattle.kernel_tables.proofs.Performing.{calm_state, moves_part, tell_append}
+use Rattle.machine_laws.proofs.Sharing.Moved.{tell-both}
+use Rattle.kernel_tables.proofs.Performing.{calm_state, moves_part}
 use Rattle.kcore.proofs.ActionsDone.{carried_does, go-run, same-moves}
 use Rattle.kcore.proofs.RunningOps.{body_performed, leave_calm, ops_few, ops_go}
 use Rattle.kcore.proofs.bodies.run_body.Goals as goal
@@ -26,7 +27,7 @@ leave_own_queue-requires-clause-few g c =
     let ns = ops_moves script t (perform t ms S) (ops_of script c.args.body) in
     λ keep.
     let X = keeping keep S in
-    let all : length (tell t (ms ++ ns) X) ≡ length (tell t ms X ++ tell t ns (perform t ms X)) = ap length (tell_append t ms ns X) in
+    let all : length (tell t (ms ++ ns) X) ≡ length (tell t ms X ++ tell t ns (perform t ms X)) = ap length (tell-both t ms ns X) in
     let long = length-append (tell t ms X) (tell t ns (perform t ms X)) in
     let few = c.requires.goes.few keep in
     rw c.requires.empty (omega arith)

@@ -1,10 +1,9 @@
-use Rattle.std.proofs.Common.{◌≡◌, ◌+◌, ◌≤◌, ℕ, Bool, false, true, arith, [], ap, refl}
-use Rattle.std.specs.Prelude.{if◌then◌else◌}
-use Rattle.sym_base.specs.declared.limits.TheConstants.Limits.{OBJECTS}
+use Rattle.std.proofs.Common.{false, arith, [], ap, refl}
 use Rattle.machine.specs.Boot.{uses_again}
 use Rattle.machine_safe.proofs.LegalSafety.{legal_safety}
 use Rattle.machine_safe.proofs.ReadyHolders.{holders_ready}
 use Rattle.table_moves.specs.Notes.{Notes}
+use Rattle.kcore.proofs.BootPlaces.{each, enough}
 use Rattle.kcore.proofs.BothWays.{boot-kernel}
 use Rattle.kcore.proofs.kernel.Kernel.boot.Goals as goal
 
@@ -13,15 +12,6 @@ invariant_of-result g c =
     let core = c.in_ok-core.ensures in
     rw c.in_ok-history.ensures.items (boot-kernel c.args.script c.in_ok-core.core c.args.room _ _ _ c.requires.places c.requires.valid
     c.requires.room (let room = c.in_ok-history.ensures.exact in omega arith) core.state core.queues core.notes)
-
--- the objects at boot have places, and where no number is used again each number has
-enough : (again : Bool) (room : ℕ) → 81 ≤ (if again then room + 128 else OBJECTS)
-enough true room = omega arith
-enough false room = omega arith
-
-each : (again : Bool) (room : ℕ) → again ≡ false → OBJECTS ≤ (if again then room + 128 else OBJECTS)
-each true room first = absurd (cc)
-each false room first = omega arith
 
 pub boot-requires-clause-places : goal.boot-requires-clause-places
 boot-requires-clause-places g c = rw c.requires.places (enough (uses_again c.args.script.version) c.args.room)
