@@ -1,5 +1,6 @@
 -- Whether callers share a kernel, as its mode tells.
 use Rattle.std.proofs.Common.{◌≡◌, ◌∙◌, Bool, true, false, List, [], ◌∷◌, ap, refl, subst}
+use Rattle.std.specs.Prelude.{Result, Ok, Err, IfOk}
 use Rattle.entry_log.specs.HistoryText.{history_text}
 use Rattle.entry_log.specs.declared.entry.Entry.{Entry}
 use Rattle.kcore.specs.KernelMode.{KernelMode, Fresh, Whole, Split, Suits, mode_of}
@@ -67,3 +68,9 @@ is_shared_text script kernel same mode run safe = record {
   safe = subst (λ (s : Script). IsSafeIn true s kernel.history) same safe;
   same = shared_is kernel.script kernel.history kernel.mode mode ∙ ap (λ (s : Script). shared_text s kernel.history) same;
 }
+
+-- a kernel after a run has run the script
+pub has-run : {W E : Type 0} (script : Script) (made : Result (KernelView W) E) → IfOk made (λ kernel. kernel.script ≡ script)
+    → IfOk made (λ kernel. kernel.history ≡ run script) → IfOk made (λ kernel. Suits false kernel.mode) → IfOk made (λ kernel. HasRun script kernel)
+has-run script (Ok kernel) same history alone = record { script = same; history = history; alone = alone }
+has-run script (Err e) same history alone = tt

@@ -2,7 +2,7 @@ mod CheckedInputs
 mod Ends
 mod Alone
 mod Judged
-mod Runs
+mod Parts
 mod ScriptPart
 mod Shown
 mod Taken

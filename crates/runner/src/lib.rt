@@ -17,7 +17,6 @@ mod schedule;
 mod shared;
 mod summary;
 mod verdict;
-mod whole;
 
 pub use brief::run_brief;
 pub use check::run_check;

@@ -9,13 +9,16 @@ ghost use Rattle.machine_safe.specs.Safe.{IsSafe};
 ghost use Rattle.runner.specs.Complete.{Stayed};
 ghost use Rattle.runner.specs.MadeText.{summary_of, load_text};
 
-use crate::history::make_history;
 use crate::summary::{Summary, summary_of, write_summary};
 use edge_io::Sink;
+use kcore::ScheduleRun;
 use load_maker::make_script;
 use script_read::RunFault;
 use std::alloc::Global;
 use sym_base::NoMemory;
+
+/// How many entries of a run are kept at once.
+const PART: u32 = 64;
 
 /// Runs the script of a seed and a size, and sums its run up.
 fn load(alloc: Global, seed: u64, size: u32) -> Result<Summary, NoMemory>
@@ -27,8 +30,8 @@ fn load(alloc: Global, seed: u64, size: u32) -> Result<Summary, NoMemory>
 {
     let script = make_script(alloc, seed, size)?;
     let slots = script.slots.len();
-    let kernel = make_history(alloc, script)?;
-    Ok(summary_of(slots, &kernel))
+    let mut schedule = ScheduleRun::boot(alloc, script, PART)?;
+    Ok(summary_of(slots, &mut schedule))
 }
 
 /// Makes the script of a seed and a size, which is the number of each client's rounds, 1 to 500, runs it, and writes one

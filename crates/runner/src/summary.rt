@@ -1,25 +1,21 @@
 //! What a run comes to.
 ghost use Rattle.std.specs.List.{count_by, sum_by};
-ghost use Rattle.std.specs.Prelude.{◌≡◌, ◌+◌, ◌*◌, ◌<◌, ◌≤◌, ◌++◌, length, decimal, false, is_some, OnOk, OnErr};
+ghost use Rattle.std.specs.Prelude.{◌≡◌, ◌+◌, ◌*◌, ◌<◌, ◌≤◌, ◌++◌, [], length, decimal, is_some, OnOk, OnErr};
 ghost use Rattle.edge_io.specs.Faults.{Rose};
 ghost use Rattle.edge_io.specs.Written.{Wrote, WrotePrefix};
-ghost use Rattle.kcore.specs.KernelMode.{Suits};
 ghost use Rattle.machine.specs.FinalRows.{final_rows};
 ghost use Rattle.machine.specs.History.{after, IsLegal};
 ghost use Rattle.machine.specs.Run.{run};
 ghost use Rattle.machine_safe.specs.Safe.{IsSafe};
 ghost use Rattle.runner.specs.MadeText.{is_accept, is_finish, effects_that, summary_of, summary_text};
-ghost use Rattle.runner.specs.RunText.{HasRun};
 ghost use Rattle.script_types.specs.Source.{IsWellFormed};
 ghost use Rattle.script_types.specs.declared.script.Script.{Script};
 
 use crate::output::Line;
-use crate::whole::{history, next_row};
 use edge_io::{Failed, Sink, write_whole};
 use entry_log::{Effect, Entry};
 use itoa::Buffer;
-use kcore::Kernel;
-use ref_words::PlainWords;
+use kcore::ScheduleRun;
 
 /// What a run comes to, in numbers.
 #[derive(Clone, Copy)]
@@ -67,56 +63,67 @@ fn with_messages_by(before: Messages, entry: &Entry) -> Messages
     Messages { accepted, finished }
 }
 
-/// Counts the messages of a history.
+/// Counts the messages of further entries beside those before them.
 #[inline(never)]
-fn messages_of(history: &[Entry]) -> Messages
-    requires { length history.now ≤ 65536 }
-    ensures accepted { result.accepted ≡ effects_that is_accept history.now }
-    ensures finished { result.finished ≡ effects_that is_finish history.now }
+fn with_messages_of(before: Messages, entries: &[Entry]) -> Messages
+    requires accepted { before.accepted + 4 * length entries.now ≤ 262144 }
+    requires finished { before.finished + 4 * length entries.now ≤ 262144 }
+    ensures accepted { result.accepted ≡ before.accepted + effects_that is_accept entries.now }
+    ensures finished { result.finished ≡ before.finished + effects_that is_finish entries.now }
+    ensures few_accepted { result.accepted ≤ before.accepted + 4 * length entries.now }
+    ensures few_finished { result.finished ≤ before.finished + 4 * length entries.now }
 {
-    let mut messages = Messages {
-        accepted: 0,
-        finished: 0,
-    };
-    for entry in history {
+    let mut messages = before;
+    for entry in entries {
         messages = with_messages_by(messages, entry);
     }
     messages
 }
 
-/// The number of objects that are left.
-fn objects_left(kernel: &Kernel<PlainWords>) -> usize
-    requires valid { IsWellFormed kernel.now.script }
-    requires alone { Suits false kernel.now.mode }
-    ensures { result ≡ length (final_rows (after kernel.now.script kernel.now.history)) }
+/// The number of objects that are left after the slots that a run has taken.
+fn objects_left(schedule: &ScheduleRun) -> usize
+    requires { IsWellFormed schedule.now.script }
+    ensures { result ≡ length (final_rows (after schedule.now.script schedule.now.history)) }
 {
     let mut objects = 0;
     let mut from = 0;
-    while let Some(row) = next_row(kernel, from) {
+    while let Some(row) = schedule.next_row(from) {
         objects += 1;
         from = row.object.0 + 1;
     }
     objects
 }
 
-/// Sums up the run of a script of so many slots.
-pub fn summary_of(slots: usize, kernel: &Kernel<PlainWords>) -> Summary
-    requires valid { IsWellFormed kernel.now.script }
-    requires alone { Suits false kernel.now.mode }
-    requires slots { slots ≡ length kernel.now.script.slots }
-    requires run { kernel.now.history ≡ run kernel.now.script }
-    ensures value { result ≡ summary_of kernel.now.script }
-    ensures legal { IsLegal kernel.now.script (run kernel.now.script) }
-    ensures safe { IsSafe kernel.now.script (run kernel.now.script) }
+/// Runs a schedule of so many slots to its end, and sums it up part by part.
+pub fn summary_of(slots: usize, schedule: &mut ScheduleRun) -> Summary
+    requires valid { IsWellFormed schedule.old.script }
+    requires none { schedule.old.history ≡ [] }
+    requires all { schedule.old.left ≡ run schedule.old.script }
+    requires some { 0 < schedule.old.size }
+    requires slots { slots ≡ length schedule.old.script.slots }
+    ensures value { result ≡ summary_of schedule.old.script }
+    ensures legal { IsLegal schedule.old.script (run schedule.old.script) }
+    ensures safe { IsSafe schedule.old.script (run schedule.old.script) }
 {
-    let history = history(kernel);
-    let messages = messages_of(history);
-    Summary {
-        slots,
-        entries: history.len(),
-        accepted: messages.accepted,
-        finished: messages.finished,
-        objects: objects_left(kernel),
+    let mut entries = 0;
+    let mut messages = Messages {
+        accepted: 0,
+        finished: 0,
+    };
+    loop {
+        schedule.next_part();
+        let part = schedule.part();
+        if part.is_empty() {
+            return Summary {
+                slots,
+                entries,
+                accepted: messages.accepted,
+                finished: messages.finished,
+                objects: objects_left(schedule),
+            };
+        }
+        entries += part.len();
+        messages = with_messages_of(messages, part);
     }
 }
 

@@ -6,9 +6,9 @@ use Rattle.runner.proofs.summary.objects_left.Given as goal
 -- the rows that are behind, and those that are left
 abbrev pub invariant-loop-row : goal.invariant-loop-row
 invariant-loop-row l =
-    l.objects + length (rows_from (after l.kernel.script l.kernel.history) l.from)
-    ≡ length (final_rows (after l.kernel.script l.kernel.history))
+    l.objects + length (rows_from (after l.schedule.script l.schedule.history) l.from)
+    ≡ length (final_rows (after l.schedule.script l.schedule.history))
 
 -- each turn has one row fewer to count
 abbrev pub decreases-loop-row : goal.decreases-loop-row
-decreases-loop-row l = length (rows_from (after l.kernel.script l.kernel.history) l.from)
+decreases-loop-row l = length (rows_from (after l.schedule.script l.schedule.history) l.from)
