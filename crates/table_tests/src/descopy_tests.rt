@@ -2,13 +2,13 @@
 ghost use Rattle.std.specs.Prelude.{◌≡◌, ◌<◌, IfSome};
 ghost use Rattle.copy_rules.specs.Ends.{ends_of};
 
+use crate::same::expect_same;
 use copy_rules::{Ends, argument_of, process_of, read_size, stage_of};
 use descopy::{Descopy, Job, Piece};
 use messages::Messages;
 use procs::Procs;
 use state_rows::{Stage, Way};
 use std::alloc::Global;
-use std::test::Fail;
 use sym_base::{Arg, MsgNo, NoMemory, ObjNo, Slots, ThreadNo};
 
 const OURS: ObjNo = ObjNo(2);
@@ -104,8 +104,8 @@ fn write(procs: &mut Procs, messages: &mut Messages, job: Job) -> Option<Piece> 
 }
 
 #[test]
-fn a_read_goes_on_until_its_client_dies(rt: HostRuntime) -> Result<(), Fail> {
-    let mut procs = two_threads(rt.alloc(), THEIRS)?;
+fn a_read_goes_on_until_its_client_dies(rt: HostRuntime) {
+    let mut procs = two_threads(rt.alloc(), THEIRS).expect(&rt, "memory");
     put(&mut procs, THEIRS, 63, 65);
     put(&mut procs, THEIRS, 64, 65);
     let bytes = Arg::Descriptor {
@@ -113,28 +113,27 @@ fn a_read_goes_on_until_its_client_dies(rt: HostRuntime) -> Result<(), Fail> {
         length: 100,
         max: 100,
     };
-    let mut messages = taken_message(rt.alloc(), bytes)?;
+    let mut messages = taken_message(rt.alloc(), bytes).expect(&rt, "memory");
     let first = read(&mut procs, &mut messages, first_piece(100, 0));
-    assert_eq!(rt; first, Some(Piece::More(64)));
+    expect_same(&rt, first, Some(Piece::More(64)));
     let mut job = first_piece(100, 0);
     job.done = 64;
     assert!(rt; procs.is_thread(ObjNo(5)));
     procs.set_stage(ObjNo(5), Stage::Doomed);
     let dead = read(&mut procs, &mut messages, job);
-    assert_eq!(rt; dead, Some(Piece::Died));
-    assert_eq!(rt; procs.byte_at(OURS, 63), 65);
-    assert_eq!(rt; procs.byte_at(OURS, 64), 0);
+    expect_same(&rt, dead, Some(Piece::Died));
+    expect_same(&rt, procs.byte_at(OURS, 63), 65);
+    expect_same(&rt, procs.byte_at(OURS, 64), 0);
     assert!(rt; procs.is_thread(ObjNo(5)));
     procs.set_stage(ObjNo(5), Stage::Live);
     let last = read(&mut procs, &mut messages, job);
-    assert_eq!(rt; last, Some(Piece::Whole(100)));
-    assert_eq!(rt; procs.byte_at(OURS, 64), 65);
-    Ok(())
+    expect_same(&rt, last, Some(Piece::Whole(100)));
+    expect_same(&rt, procs.byte_at(OURS, 64), 65);
 }
 
 #[test]
-fn a_descriptor_takes_no_more_than_it_may_have(rt: HostRuntime) -> Result<(), Fail> {
-    let mut procs = two_threads(rt.alloc(), THEIRS)?;
+fn a_descriptor_takes_no_more_than_it_may_have(rt: HostRuntime) {
+    let mut procs = two_threads(rt.alloc(), THEIRS).expect(&rt, "memory");
     for at in 0..32 {
         put(&mut procs, OURS, at, 7);
     }
@@ -143,27 +142,38 @@ fn a_descriptor_takes_no_more_than_it_may_have(rt: HostRuntime) -> Result<(), Fa
         length: 0,
         max: 16,
     };
-    let mut messages = taken_message(rt.alloc(), bytes)?;
+    let mut messages = taken_message(rt.alloc(), bytes).expect(&rt, "memory");
     let whole = write(&mut procs, &mut messages, first_piece(16, 0));
-    assert_eq!(rt; whole, Some(Piece::Whole(16)));
+    expect_same(&rt, whole, Some(Piece::Whole(16)));
     let over = write(&mut procs, &mut messages, first_piece(17, 0));
-    assert_eq!(rt; over, Some(Piece::Overflow));
-    assert_eq!(rt; procs.byte_at(THEIRS, 8), 7);
-    assert_eq!(rt; procs.byte_at(THEIRS, 23), 7);
-    assert_eq!(rt; procs.byte_at(THEIRS, 24), 0);
+    expect_same(&rt, over, Some(Piece::Overflow));
+    expect_same(&rt, procs.byte_at(THEIRS, 8), 7);
+    expect_same(&rt, procs.byte_at(THEIRS, 23), 7);
+    expect_same(&rt, procs.byte_at(THEIRS, 24), 0);
     let filled = Arg::Descriptor {
         offset: 8,
         length: 16,
         max: 16,
     };
-    let row = messages.row(MsgNo(1)).ok_or("the message")?;
-    assert_eq!(rt; row.args[0], filled);
-    Ok(())
+    let row = messages.row(MsgNo(1)).expect(&rt, "the message");
+    expect_same(&rt, row.args[0], filled);
+}
+
+/// The first bytes of a process's memory.
+fn first_bytes(procs: &Procs, p: ObjNo) -> [u8; 6] {
+    [
+        procs.byte_at(p, 0),
+        procs.byte_at(p, 1),
+        procs.byte_at(p, 2),
+        procs.byte_at(p, 3),
+        procs.byte_at(p, 4),
+        procs.byte_at(p, 5),
+    ]
 }
 
 #[test]
-fn a_piece_is_read_whole_before_it_is_written(rt: HostRuntime) -> Result<(), Fail> {
-    let mut procs = two_threads(rt.alloc(), OURS)?;
+fn a_piece_is_read_whole_before_it_is_written(rt: HostRuntime) {
+    let mut procs = two_threads(rt.alloc(), OURS).expect(&rt, "memory");
     for at in 0..4 {
         put(&mut procs, OURS, at, at as u8 + 1);
     }
@@ -172,10 +182,8 @@ fn a_piece_is_read_whole_before_it_is_written(rt: HostRuntime) -> Result<(), Fai
         length: 4,
         max: 4,
     };
-    let mut messages = taken_message(rt.alloc(), bytes)?;
+    let mut messages = taken_message(rt.alloc(), bytes).expect(&rt, "memory");
     let whole = read(&mut procs, &mut messages, first_piece(4, 1));
-    assert_eq!(rt; whole, Some(Piece::Whole(4)));
-    let after = [0, 1, 2, 3, 4, 5].map(|at| procs.byte_at(OURS, at));
-    assert_eq!(rt; after, [1, 1, 2, 3, 4, 0]);
-    Ok(())
+    expect_same(&rt, whole, Some(Piece::Whole(4)));
+    expect_same(&rt, first_bytes(&procs, OURS), [1, 1, 2, 3, 4, 0]);
 }

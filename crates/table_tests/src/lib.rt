@@ -30,4 +30,6 @@ mod ref_words_tests;
 #[cfg(test)]
 mod requests_tests;
 #[cfg(test)]
+mod same;
+#[cfg(test)]
 mod server_table_tests;

@@ -5,6 +5,7 @@ ghost use Rattle.ref_words.specs.Words.{own_at, closed, IsOut};
 ghost use Rattle.objects.specs.Calls.{next_place, rows_closed};
 ghost use Rattle.objects.specs.Rows.{is_alive, is_there, row_at};
 
+use crate::same::{expect_same, expect_that};
 use objects::{Made, Objects};
 use ref_words::{Closed, Found, PlainNote, PlainWords};
 use std::test::Fail;
@@ -94,24 +95,22 @@ fn is_dead_then_swept(objects: &mut Objects<PlainWords>, name: &Name) -> bool
 }
 
 #[test]
-fn a_name_is_free_after_the_sweep(rt: HostRuntime) -> Result<(), Fail> {
-    let name = read_name(b"door").ok_or("no name")?;
-    let words = PlainWords::new(rt.alloc(), 4096)?;
-    let mut objects = Objects::new(rt.alloc(), words, false)?;
-    assert!(rt; is_dead_then_swept(&mut objects, &name));
-    assert_eq!(rt; objects.find(Kind::Mutex, &name), None);
-    assert!(rt; objects.row(ObjNo(0)).is_none());
-    assert!(rt; !objects.is_taken(Kind::Mutex, &name));
-    assert_eq!(rt; objects.next(), 1);
-    Ok(())
+fn a_name_is_free_after_the_sweep(rt: HostRuntime) {
+    let name = read_name(b"door").expect(&rt, "a name");
+    let words = PlainWords::new(rt.alloc(), 4096).expect(&rt, "memory");
+    let mut objects = Objects::new(rt.alloc(), words, false).expect(&rt, "memory");
+    expect_that(&rt, is_dead_then_swept(&mut objects, &name));
+    expect_same(&rt, objects.find(Kind::Mutex, &name), None);
+    expect_that(&rt, objects.row(ObjNo(0)).is_none());
+    expect_that(&rt, !objects.is_taken(Kind::Mutex, &name));
+    expect_same(&rt, objects.next(), 1);
 }
 
 #[test]
-fn a_number_is_used_again(rt: HostRuntime) -> Result<(), Fail> {
-    let name = read_name(b"door").ok_or("no name")?;
-    let words = PlainWords::new(rt.alloc(), 4096)?;
-    let mut objects = Objects::new(rt.alloc(), words, true)?;
-    assert!(rt; is_dead_then_swept(&mut objects, &name));
-    assert_eq!(rt; objects.next(), 0);
-    Ok(())
+fn a_number_is_used_again(rt: HostRuntime) {
+    let name = read_name(b"door").expect(&rt, "a name");
+    let words = PlainWords::new(rt.alloc(), 4096).expect(&rt, "memory");
+    let mut objects = Objects::new(rt.alloc(), words, true).expect(&rt, "memory");
+    expect_that(&rt, is_dead_then_swept(&mut objects, &name));
+    expect_same(&rt, objects.next(), 0);
 }

@@ -2,8 +2,8 @@
 ghost use Rattle.std.specs.Prelude.{◌≡◌, ◌<◌, length};
 ghost use Rattle.ref_words.specs.Words.{own_at, IsFresh};
 
+use crate::same::expect_same;
 use ref_words::{Closed, Found, PlainWords, RefWords};
-use std::test::Fail;
 
 /// Makes an object with two references, sends a note out, closes one reference and takes the note back.
 fn found_while_known<W: RefWords>(words: &mut W, place: u32) -> Found
@@ -23,19 +23,17 @@ fn found_while_known<W: RefWords>(words: &mut W, place: u32) -> Found
 }
 
 #[test]
-fn a_note_comes_back_to_an_object_in_use(rt: HostRuntime) -> Result<(), Fail> {
-    let mut words = PlainWords::new(rt.alloc(), 4)?;
-    assert_eq!(rt; found_while_known(&mut words, 3), Found::Held);
-    assert_eq!(rt; words.close(3), Closed::Stays);
-    Ok(())
+fn a_note_comes_back_to_an_object_in_use(rt: HostRuntime) {
+    let mut words = PlainWords::new(rt.alloc(), 4).expect(&rt, "memory");
+    expect_same(&rt, found_while_known(&mut words, 3), Found::Held);
+    expect_same(&rt, words.close(3), Closed::Stays);
 }
 
 #[test]
-fn a_note_comes_back_to_a_gone_object(rt: HostRuntime) -> Result<(), Fail> {
-    let mut words = PlainWords::new(rt.alloc(), 4)?;
+fn a_note_comes_back_to_a_gone_object(rt: HostRuntime) {
+    let mut words = PlainWords::new(rt.alloc(), 4).expect(&rt, "memory");
     words.create(0);
     assert_eq!(rt; words.close(0), Closed::Last);
     let late = words.send_out(0);
-    assert_eq!(rt; words.take_back(late), Found::Dead);
-    Ok(())
+    expect_same(&rt, words.take_back(late), Found::Dead);
 }
