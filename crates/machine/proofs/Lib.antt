@@ -4,3 +4,4 @@ pub mod DoomedHandles
 pub mod HandleNumbers
 pub mod Instructions
 pub mod Sought
+pub mod ThreadSpans

@@ -3,6 +3,7 @@ ghost use Rattle.std.specs.Prelude.{◌≡◌, ◌+◌, ◌≤◌, ◌++◌, [],
 ghost use Rattle.script_types.specs.Shape.{IsShaped};
 ghost use Rattle.machine.specs.Boot.{boot_object, born_process, new_thread, born_thread, born_queue, born_queues, is_of, born_threads, born_supervisor, born_kernel, born};
 
+use crate::spans::{Span, spans_of};
 use crate::{Role, ThreadRow};
 use script_types::{QueueDecl, Script, ThreadDecl};
 use state_rows::ObjectRow;
@@ -116,22 +117,23 @@ fn is_of(process: Option<u8>, of: Option<u8>) -> bool
     }
 }
 
-/// Adds the threads of a process, or the kernel threads.
+/// Adds the threads of a process, or the kernel threads, among those that are declared from a place on.
 fn push_threads(
     all: &mut Vec<Born>,
     process: Option<u8>,
     number: ObjNo,
+    first: usize,
     threads: &[ThreadDecl],
 ) -> Result<(), NoMemory>
-    requires { length threads.now ≤ 63 }
-    ensures ok { OnOk result (all.new.items ≡ all.old.items ++ born_threads process number.0 0 threads.now) }
+    requires { first + length threads.now ≤ 63 }
+    ensures ok { OnOk result (all.new.items ≡ all.old.items ++ born_threads process number.0 first threads.now) }
     ensures few { vec_len all.new ≤ vec_len all.old + 63 }
 {
     for (k, declared) in threads.iter().enumerate() {
         if !is_of(process, declared.process) {
             continue;
         }
-        add(all, born_thread(number, k as u8, declared))?;
+        add(all, born_thread(number, (first + k) as u8, declared))?;
     }
     Ok(())
 }
@@ -158,7 +160,7 @@ fn born_kernel(alloc: Global, script: &Script) -> Result<Vec<Born>, NoMemory>
     add(&mut all, born_process(read_name(b"kernel").unwrap()))?;
     add(&mut all, born_supervisor())?;
     push_queues(&mut all, script.queues.as_slice())?;
-    push_threads(&mut all, None, KERNEL, script.threads.as_slice())?;
+    push_threads(&mut all, None, KERNEL, 0, script.threads.as_slice())?;
     Ok(all)
 }
 
@@ -169,10 +171,13 @@ pub fn all_born(alloc: Global, script: &Script) -> Result<Items<Born>, NoMemory>
     ensures { IfOk result (λ all. all ≡ born script.now) }
 {
     let mut all = born_kernel(alloc, script)?;
+    let threads = script.threads.as_slice();
+    let spans = spans_of(script);
     for (j, process) in script.processes.as_slice().iter().enumerate() {
         let number = ObjNo(all.len() as u16);
         add(&mut all, born_process(process.name))?;
-        push_threads(&mut all, Some(j as u8), number, script.threads.as_slice())?;
+        let Span { first, end } = spans[j];
+        push_threads(&mut all, Some(j as u8), number, first, &threads[first..end])?;
     }
     Ok(Items::new(all))
 }

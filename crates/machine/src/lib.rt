@@ -28,6 +28,7 @@ mod rows;
 mod server_move;
 mod services;
 mod serving;
+mod spans;
 mod state;
 mod synchronization;
 mod task;
