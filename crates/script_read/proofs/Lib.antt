@@ -6,10 +6,10 @@ pub mod FirstWords
 pub mod Instructions
 pub mod JudgedLines
 pub mod LastThread
-pub mod ListedThreads
 pub mod NameNumbers
 pub mod NameSets
 pub mod ProgressLaws
 pub mod ReadAnswers
 pub mod Replicated
 pub mod SourceLaws
+pub mod ThreadNames

@@ -3,7 +3,7 @@ use Rattle.std.proofs.Common.{◌≡◌, ℕ, ◌+◌, ◌≤◌, List, [], ◌�
 use Rattle.std.proofs.lemmas.Bool.{ltb-true}
 use Rattle.std.specs.Prelude.{IsTrue}
 use Rattle.script_read.specs.LineByLine.{read_from, read_text, at_end}
-use Rattle.script_read.specs.NameNumbers.{ListsThreads}
+use Rattle.script_read.specs.NameNumbers.{ListsNames}
 use Rattle.script_read.specs.Progress.{IsSteady}
 use Rattle.script_read.specs.declared.progress.Progress.{Progress}
 use Rattle.script_read.specs.declared.reason.Reason.{Reason}
@@ -18,13 +18,13 @@ use Rattle.script_types.specs.declared.source_line.SourceLine.TheVariants as lin
 -- The text is read up to here: what is left decides what the whole text is, and its first line has this number.
 pub record IsReadTo (whole rest : List ℕ) (number : ℕ) (p : Progress) : Type 0 where
   pub steady : IsSteady p
-  pub listed : ListsThreads p.threads p.context.script
+  pub listed : ListsNames p.taken p.context.script
   pub text : p.names.text.now ≡ whole
   pub count : number + length rest ≤ length whole + 1
   pub same : read_from (file_declares (text_lines whole)) p.context number (text_lines rest) ≡ read_text whole
 
 -- before the first line
-pub read_to_start : (whole : List ℕ) (p : Progress) → p.context ≡ start → IsSteady p → ListsThreads p.threads p.context.script
+pub read_to_start : (whole : List ℕ) (p : Progress) → p.context ≡ start → IsSteady p → ListsNames p.taken p.context.script
     → p.names.text.now ≡ whole → IsReadTo whole whole 1 p
 unfolding read_text
 read_to_start whole p e s l t = record {

@@ -1,17 +1,19 @@
--- Names as numbers, and the list of the numbers of a script's threads.
+-- Names as numbers, and the lists of the numbers of the names that a script's lines have taken.
 use Rattle.std.specs.Int.{w128, from_le_bytes}
 use Rattle.std.specs.List.{list_all, list_any}
-use Rattle.std.specs.Prelude.{◌≡◌, ℕ, ◌≤◌, Bool, false, ◌==◌, ◌||◌, IsTrue, List, ◌++◌, length, drop, replicate, ⊤}
+use Rattle.std.specs.Prelude.{◌≡◌, ℕ, ◌≤◌, Bool, ◌==◌, ◌||◌, IsTrue, List, ◌++◌, length, drop, replicate, ⊤}
 use Rattle.std.specs.Str.{bytes_eq}
 use Rattle.script_read.specs.declared.judge.Judged.{Judged}
 use Rattle.script_read.specs.declared.judge.Judged.TheVariants as judged
+use Rattle.script_read.specs.declared.taken_names.TakenNames.{TakenNames}
 use Rattle.script_types.specs.Context.{after}
 use Rattle.script_types.specs.declared.context.Context.{Context}
+use Rattle.script_types.specs.declared.declaration.DfcDecl.{DfcDecl}
+use Rattle.script_types.specs.declared.declaration.IdfcDecl.{IdfcDecl}
+use Rattle.script_types.specs.declared.declaration.ProcessDecl.{ProcessDecl}
 use Rattle.script_types.specs.declared.declaration.QueueDecl.{QueueDecl}
 use Rattle.script_types.specs.declared.declaration.ThreadDecl.{ThreadDecl}
 use Rattle.script_types.specs.declared.script.Script.{Script}
-use Rattle.script_types.specs.declared.source_line.SourceLine.{SourceLine}
-use Rattle.script_types.specs.declared.source_line.SourceLine.TheVariants as line
 use Rattle.sym_base.specs.NameText.{name_byte}
 
 -- the bytes of a name
@@ -30,23 +32,31 @@ name_number name = from_le_bytes w128 (padded name)
 abbrev pub lists_name : List ℕ → List ℕ → Bool
 lists_name numbers name = list_any (λ n. name_number name == n) numbers
 
+-- a list has the number of one name more, and of no other that it had not
+abbrev pub AddsName : List ℕ → List ℕ → List ℕ → Type 0
+AddsName old new name = (other : List ℕ) → IsNameText other → lists_name new other ≡ (lists_name old other || bytes_eq other name)
+
+-- one of some declared things has this name
+abbrev pub any_named : {A : Type 0} → (A → List ℕ) → List A → List ℕ → Bool
+any_named name_of things name = list_any (λ thing. bytes_eq name (name_of thing)) things
+
 -- a queue or a thread of a script has this name
 abbrev pub has_thread : Script → List ℕ → Bool
-has_thread s name = list_any (λ (q : QueueDecl). bytes_eq name q.name) s.queues || list_any (λ (t : ThreadDecl). bytes_eq name t.name) s.threads
+has_thread s name = any_named (λ (q : QueueDecl). q.name) s.queues name || any_named (λ (t : ThreadDecl). t.name) s.threads name
 
--- a line declares a thread of this name, or a queue, which has one
-abbrev pub declares_thread : SourceLine → List ℕ → Bool
-declares_thread (line.Queue name priority) other = bytes_eq other name
-declares_thread (line.KernelThread name priority held) other = bytes_eq other name
-declares_thread (line.Thread name priority held) other = bytes_eq other name
-declares_thread _ other = false
+-- a list has the numbers of the names that pass a test, and of no other name
+abbrev pub ListsThose : List ℕ → (List ℕ → Bool) → Type 0
+ListsThose numbers test = (name : List ℕ) → IsNameText name → lists_name numbers name ≡ test name
 
--- a list has the numbers of the names of a script's threads, and of no other name
-abbrev pub ListsThreads : List ℕ → Script → Type 0
-ListsThreads numbers s = (name : List ℕ) → IsNameText name → lists_name numbers name ≡ has_thread s name
+-- each list has the numbers of the names of its kind that a script declares, and of no other name
+pub record ListsNames (taken : TakenNames) (s : Script) : Type 0 where
+  pub threads : ListsThose taken.threads (has_thread s)
+  pub processes : ListsThose taken.processes (any_named (λ (p : ProcessDecl). p.name) s.processes)
+  pub dfcs : ListsThose taken.dfcs (any_named (λ (d : DfcDecl). d.name) s.dfcs)
+  pub idfcs : ListsThose taken.idfcs (any_named (λ (d : IdfcDecl). d.name) s.idfcs)
 
--- where a line is judged to be a line, its thread is listed too
-abbrev pub ListsJudged : List ℕ → Context → Judged → Type 0
-ListsJudged numbers c judged.Skipped = ListsThreads numbers c.script
-ListsJudged numbers c (judged.Line l) = ListsThreads numbers (after c l).script
-ListsJudged numbers c (judged.Bad why) = ⊤
+-- where a line is judged to be a line, its name is listed too
+abbrev pub ListsJudged : TakenNames → Context → Judged → Type 0
+ListsJudged taken c judged.Skipped = ListsNames taken c.script
+ListsJudged taken c (judged.Line l) = ListsNames taken (after c l).script
+ListsJudged taken c (judged.Bad why) = ⊤

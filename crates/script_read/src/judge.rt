@@ -2,7 +2,7 @@
 ghost use Rattle.std.specs.Prelude.{◌≡◌, IsTrue, IfNone, IfOk, List};
 ghost use Rattle.script_read.specs.Judging.{refused, reason_of_fault, word_tests, line_tests, judged_as, IsJudged, IsJudgedWithin};
 ghost use Rattle.script_read.specs.FileNames.{Knows, AreKnown, names_something};
-ghost use Rattle.script_read.specs.NameNumbers.{ListsThreads, ListsJudged};
+ghost use Rattle.script_read.specs.NameNumbers.{ListsNames, ListsJudged};
 ghost use Rattle.script_words.specs.Pieces.{pieces};
 ghost use Rattle.script_types.specs.Context.{after};
 ghost use Rattle.script_types.specs.Names.{Declared, file_declares};
@@ -13,9 +13,9 @@ use crate::Reason;
 use crate::declarations::{Declarations, FileNames};
 use crate::known::{is_known, names_something};
 use crate::limits::is_within;
-use crate::name_set::NameSet;
 use crate::order::{is_in_order, is_scheduled};
 use crate::standing::{is_new, is_right_kind};
+use crate::taken_names::TakenNames;
 use script_types::{Context, SourceLine};
 use script_words::{
     Fault, Keyword, begins_comment, is_counted, is_printed, is_short, is_skipped, keyword_kind,
@@ -64,22 +64,22 @@ fn reason_of_words(context: &Context, keyword: Keyword, words: &[&[u8]]) -> Opti
 /// The first reason why a line may not stand here: its thread, its names, or the limits.
 fn reason_of_line(
     declarations: &Declarations<'_>,
-    threads: &mut NameSet,
+    taken: &mut TakenNames,
     context: &Context,
     instructions: usize,
     line: &SourceLine,
 ) -> Result<Option<Reason>, NoMemory>
     requires count { instructions ≡ all_instrs context.now.script.threads }
-    requires listed { ListsThreads threads.old context.now.script }
+    requires listed { ListsNames taken.old context.now.script }
     ensures tests { IfOk result (λ reason. (file : List Declared) → (IsTrue (names_something line.now) → Knows declarations.now file)
         → reason ≡ refused (line_tests file context.now line.now)) }
     ensures within { IfOk result (λ reason. IfNone reason (IsTrue (is_within context.now line.now))) }
-    ensures listed { IfOk result (λ reason. IfNone reason (ListsThreads threads.new (after context.now line.now).script)) }
+    ensures listed { IfOk result (λ reason. IfNone reason (ListsNames taken.new (after context.now line.now).script)) }
 {
     if !is_right_kind(context, line) {
         return Ok(Some(Reason::Kind));
     }
-    if !is_new(threads, context, line)? {
+    if !is_new(taken, context, line)? {
         return Ok(Some(Reason::Twice));
     }
     if !is_known(declarations, context, line) {
@@ -95,7 +95,7 @@ fn reason_of_line(
 fn judge_words(
     alloc: Global,
     names: &mut FileNames<'_>,
-    threads: &mut NameSet,
+    taken: &mut TakenNames,
     context: &Context,
     instructions: usize,
     keyword: Keyword,
@@ -103,11 +103,11 @@ fn judge_words(
 ) -> Result<Judged, NoMemory>
     requires count { instructions ≡ all_instrs context.now.script.threads }
     requires known { AreKnown names.old }
-    requires listed { ListsThreads threads.old context.now.script }
+    requires listed { ListsNames taken.old context.now.script }
     ensures judged { IfOk result (λ judged. judged ≡ judged_as (file_declares (text_lines names.old.text.now)) context.now keyword (pieces words.now)) }
     ensures within { IfOk result (IsJudgedWithin context.now) }
     ensures known { AreKnown names.new }
-    ensures listed { IfOk result (ListsJudged threads.new context.now) }
+    ensures listed { IfOk result (ListsJudged taken.new context.now) }
     ensures text { names.new.text.now ≡ names.old.text.now }
 {
     if let Some(reason) = reason_of_words(context, keyword, words) {
@@ -116,7 +116,7 @@ fn judge_words(
     let second = second_of(is_scheduled(context), keyword, words);
     let line = line_as(alloc, keyword, second, words)?;
     names.read_where(alloc, names_something(&line))?;
-    match reason_of_line(&names.declarations, threads, context, instructions, &line)? {
+    match reason_of_line(&names.declarations, taken, context, instructions, &line)? {
         Some(reason) => Ok(Judged::Bad(reason)),
         None => Ok(Judged::Line(line)),
     }
@@ -127,18 +127,18 @@ pub fn judge_text<'a>(
     alloc: Global,
     names: &mut FileNames<'_>,
     words: &mut Vec<&'a [u8]>,
-    threads: &mut NameSet,
+    taken: &mut TakenNames,
     context: &Context,
     instructions: usize,
     text: &'a [u8],
 ) -> Result<Judged, NoMemory>
     requires count { instructions ≡ all_instrs context.now.script.threads }
     requires known { AreKnown names.old }
-    requires listed { ListsThreads threads.old context.now.script }
+    requires listed { ListsNames taken.old context.now.script }
     ensures judged { IfOk result (IsJudged (file_declares (text_lines names.old.text.now)) context.now text.now) }
     ensures within { IfOk result (IsJudgedWithin context.now) }
     ensures known { AreKnown names.new }
-    ensures listed { IfOk result (ListsJudged threads.new context.now) }
+    ensures listed { IfOk result (ListsJudged taken.new context.now) }
     ensures text { names.new.text.now ≡ names.old.text.now }
 {
     if !is_printed(text) {
@@ -158,5 +158,5 @@ pub fn judge_text<'a>(
     let Some(keyword) = keyword_of(word_at(words, 0)) else {
         return Ok(Judged::Bad(Reason::Word));
     };
-    judge_words(alloc, names, threads, context, instructions, keyword, words)
+    judge_words(alloc, names, taken, context, instructions, keyword, words)
 }

@@ -15,6 +15,7 @@ mod progress;
 mod read;
 mod reason;
 mod standing;
+mod taken_names;
 
 pub use fault::RunFault;
 pub use law::accepted_or_bad;

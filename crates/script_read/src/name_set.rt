@@ -1,7 +1,6 @@
-//! The names of threads so far, in order, so that one is found by halving.
-ghost use Rattle.std.specs.Prelude.{◌≡◌, ◌||◌, not, List, ℕ, [], IfOk, IsTrue};
-ghost use Rattle.std.specs.Str.{bytes_eq};
-ghost use Rattle.script_read.specs.NameNumbers.{name_number, lists_name, IsNameText};
+//! Names in order, so that one is found by halving.
+ghost use Rattle.std.specs.Prelude.{◌≡◌, not, [], IfOk, IsTrue};
+ghost use Rattle.script_read.specs.NameNumbers.{name_number, lists_name, AddsName, IsNameText};
 
 use std::alloc::Global;
 use std::marker::Model;
@@ -48,8 +47,7 @@ impl NameSet {
     /// Adds a name. Answers whether it is new.
     pub fn insert(&mut self, name: &Name) -> Result<bool, NoMemory>
         ensures new { IfOk result (λ is_new. is_new ≡ not (lists_name self.old name.now)) }
-        ensures more { IfOk result (λ is_new. IsTrue is_new → (other : List ℕ) → IsNameText other →
-            lists_name self.new other ≡ (lists_name self.old other || bytes_eq other name.now)) }
+        ensures more { IfOk result (λ is_new. IsTrue is_new → AddsName self.old self.new name.now) }
         ensures text { IsNameText name.now }
     {
         let number = number_of(name);

@@ -2,7 +2,7 @@
 ghost use Rattle.std.specs.Prelude.{◌≡◌, ◌+◌, ◌<◌, ◌≤◌, length, IfNone, IfOk, OnOk, IsTrue};
 ghost use Rattle.script_read.specs.LineByLine.{at_end, read_text};
 ghost use Rattle.script_read.specs.Judging.{IsJudged, IsJudgedWithin};
-ghost use Rattle.script_read.specs.NameNumbers.{ListsThreads, ListsJudged};
+ghost use Rattle.script_read.specs.NameNumbers.{ListsNames, ListsJudged};
 ghost use Rattle.script_read.specs.Progress.{reading_of, IsSteady, IsLineRead};
 ghost use Rattle.script_types.specs.Context.{start, after, is_ended};
 ghost use Rattle.script_types.specs.Names.{file_declares};
@@ -14,8 +14,8 @@ use crate::context::{add_line, new_context};
 use crate::declarations::FileNames;
 use crate::judge::{Judged, judge_text};
 use crate::limits::instrs_after;
-use crate::name_set::NameSet;
 use crate::order::is_ended;
+use crate::taken_names::TakenNames;
 use script_types::{Context, SourceLine};
 use script_words::first_line;
 use std::alloc::Global;
@@ -30,12 +30,12 @@ pub enum Reading {
     Bad { line: u32, reason: Reason },
 }
 
-/// The lines so far: what they make, the names of their threads, and how many instructions they have; the whole text,
+/// The lines so far: what they make, the names that they take, and how many instructions they have; the whole text,
 /// and the words of the last line.
 #[derive(Drop)]
 struct Progress<'a> {
     context: Context,
-    threads: NameSet,
+    taken: TakenNames,
     instructions: usize,
     names: FileNames<'a>,
     words: Vec<&'a [u8]>,
@@ -46,12 +46,12 @@ impl<'a> Progress<'a> {
     fn new(alloc: Global, text: &'a [u8]) -> Self
         ensures context { result.context ≡ start }
         ensures steady { IsSteady result }
-        ensures listed { ListsThreads result.threads result.context.script }
+        ensures listed { ListsNames result.taken result.context.script }
         ensures text { result.names.text.now ≡ text.now }
     {
         Progress {
             context: new_context(alloc),
-            threads: NameSet::new(alloc),
+            taken: TakenNames::new(alloc),
             instructions: 0,
             names: FileNames::new(alloc, text),
             words: Vec::new(alloc),
@@ -64,7 +64,7 @@ impl<'a> Progress<'a> {
         requires steady { IsSteady self.old }
         requires within { IsTrue (is_within self.old.context line) }
         ensures made { OnOk result (self.new.context ≡ after self.old.context line) }
-        ensures threads { self.new.threads ≡ self.old.threads }
+        ensures taken { self.new.taken ≡ self.old.taken }
         ensures steady { OnOk result (IsSteady self.new) }
         ensures text { self.new.names.text.now ≡ self.old.names.text.now }
     {
@@ -77,10 +77,10 @@ impl<'a> Progress<'a> {
     /// What one more line is.
     fn judge(&mut self, alloc: Global, text: &'a [u8]) -> Result<Judged, NoMemory>
         requires steady { IsSteady self.old }
-        requires listed { ListsThreads self.old.threads self.old.context.script }
+        requires listed { ListsNames self.old.taken self.old.context.script }
         ensures judged { IfOk result (IsJudged (file_declares (text_lines self.old.names.text.now)) self.old.context text.now) }
         ensures within { IfOk result (IsJudgedWithin self.old.context) }
-        ensures listed { IfOk result (ListsJudged self.new.threads self.old.context) }
+        ensures listed { IfOk result (ListsJudged self.new.taken self.old.context) }
         ensures steady { IsSteady self.new }
         ensures context { self.new.context ≡ self.old.context }
         ensures text { self.new.names.text.now ≡ self.old.names.text.now }
@@ -89,7 +89,7 @@ impl<'a> Progress<'a> {
             alloc,
             &mut self.names,
             &mut self.words,
-            &mut self.threads,
+            &mut self.taken,
             &self.context,
             self.instructions,
             text,
@@ -99,10 +99,10 @@ impl<'a> Progress<'a> {
     /// Reads one more line. Answers its reason where it is bad; then the lines so far stay as they are.
     fn read_line(&mut self, alloc: Global, text: &'a [u8]) -> Result<Option<Reason>, NoMemory>
         requires steady { IsSteady self.old }
-        requires listed { ListsThreads self.old.threads self.old.context.script }
+        requires listed { ListsNames self.old.taken self.old.context.script }
         ensures read { IfOk result (λ found. IsLineRead (file_declares (text_lines self.old.names.text.now)) self.old.context text.now found self.new.context) }
         ensures steady { OnOk result (IsSteady self.new) }
-        ensures listed { IfOk result (λ found. IfNone found (ListsThreads self.new.threads self.new.context.script)) }
+        ensures listed { IfOk result (λ found. IfNone found (ListsNames self.new.taken self.new.context.script)) }
         ensures text { self.new.names.text.now ≡ self.old.names.text.now }
     {
         match self.judge(alloc, text)? {
