@@ -4,10 +4,9 @@ use crate::gate::OpenGate;
 use crate::run_tests::{UNKNOWN_WORD, UNKNOWN_WORD_SCRIPT};
 use crate::runs::{Case, STEADY, WELL, outcome_of};
 use crate::status::Status;
-use std::alloc::{AllocError, Global};
+use std::alloc::Global;
 use std::process::Abort;
 use std::sync::Wait;
-use std::test::Fail;
 use std::thread::Threads;
 use worked_examples::{DEAD_THREAD_HISTORY, DEAD_THREAD_SCRIPT, HANDLES_HISTORY, HANDLES_SCRIPT};
 
@@ -58,10 +57,10 @@ end
 ";
 
 /// The text of a script and of a history behind it.
-fn joined(alloc: Global, script: &str, history: &str) -> Result<String, AllocError> {
-    let mut text = String::from_str(alloc, script)?;
-    text.push_str(history)?;
-    Ok(text)
+fn joined<R: Abort>(rt: &R, alloc: Global, script: &str, history: &str) -> String {
+    let mut text = String::from_str(alloc, script).expect(rt, "memory");
+    text.push_str(history).expect(rt, "memory");
+    text
 }
 
 /// Checks a history of a script, and compares the status and what was written.
@@ -72,12 +71,11 @@ fn expect_check<R: Abort + Threads + Wait + Sync>(
     history: &str,
     status: Status,
     written: &str,
-) -> Result<(), Fail> {
-    let text = joined(alloc, script, history)?;
-    let outcome = outcome_of(rt, alloc, &["check"], text.as_bytes(), STEADY, &OpenGate)?;
+) {
+    let text = joined(rt, alloc, script, history);
+    let outcome = outcome_of(rt, alloc, &["check"], text.as_bytes(), STEADY, &OpenGate);
     assert_eq!(rt; outcome.status, status);
     assert_eq!(rt; outcome.sink.bytes(), written.as_bytes());
-    Ok(())
 }
 
 /// Scripts with legal histories, and what is written.
@@ -88,23 +86,22 @@ const LEGAL: [(&str, &str, &str); 3] = [
 ];
 
 #[test]
-fn a_legal_history_is_counted(rt: HostRuntime) -> Result<(), Fail> {
-    for (script, history, written) in LEGAL {
-        expect_check(&rt, rt.alloc(), script, history, Status::Done, written)?;
+fn a_legal_history_is_counted(rt: HostRuntime) {
+    for (script, history, written) in &LEGAL {
+        expect_check(&rt, rt.alloc(), script, history, Status::Done, written);
     }
-    Ok(())
 }
 
 #[test]
-fn another_history_has_a_first_bad_line(rt: HostRuntime) -> Result<(), Fail> {
+fn another_history_has_a_first_bad_line(rt: HostRuntime) {
     let alloc = rt.alloc();
     let script = HANDLES_SCRIPT;
     let bad = Status::Illegal;
-    expect_check(&rt, alloc, script, CHANGED_HISTORY, bad, "illegal 3\n")?;
+    expect_check(&rt, alloc, script, CHANGED_HISTORY, bad, "illegal 3\n");
     let unended = HANDLES_HISTORY.strip_suffix("end\n").unwrap_or("");
-    expect_check(&rt, alloc, script, unended, bad, "illegal 20\n")?;
+    expect_check(&rt, alloc, script, unended, bad, "illegal 20\n");
     let unfed = HANDLES_HISTORY.strip_suffix("\n").unwrap_or("");
-    expect_check(&rt, alloc, script, unfed, bad, "illegal 20\n")
+    expect_check(&rt, alloc, script, unfed, bad, "illegal 20\n");
 }
 
 /// Checks a text, a script and a history behind it, over each failing read and write, and over short reads and writes.
@@ -114,7 +111,7 @@ fn expect_checked<'a, R: Abort + Threads + Wait + Sync>(
     text: &'a str,
     status: Status,
     written: &'a str,
-) -> Result<(), Fail> {
+) {
     let case = Case {
         words: &["check"],
         script: text,
@@ -122,7 +119,7 @@ fn expect_checked<'a, R: Abort + Threads + Wait + Sync>(
         written,
         ..WELL
     };
-    expect_each_fault(rt, alloc, &case)
+    expect_each_fault(rt, alloc, &case);
 }
 
 /// A script with a history, how its check ends, and what is written.
@@ -146,10 +143,9 @@ const CHECKS: [Check; 3] = [
 ];
 
 #[test]
-fn checks_meet_each_fault(rt: HostRuntime) -> Result<(), Fail> {
-    for (script, history, status, written) in CHECKS {
-        let text = joined(rt.alloc(), script, history)?;
-        expect_checked(&rt, rt.alloc(), text.as_str(), status, written)?;
+fn checks_meet_each_fault(rt: HostRuntime) {
+    for (script, history, status, written) in &CHECKS {
+        let text = joined(&rt, rt.alloc(), script, history);
+        expect_checked(&rt, rt.alloc(), text.as_str(), *status, written);
     }
-    Ok(())
 }

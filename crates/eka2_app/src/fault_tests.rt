@@ -8,7 +8,6 @@ use crate::status::Status;
 use std::alloc::Global;
 use std::process::Abort;
 use std::sync::Wait;
-use std::test::Fail;
 use std::thread::Threads;
 
 /// Reads of 16 bytes, and writes of whole pieces, none of which fails.
@@ -63,11 +62,7 @@ fn reads_of(text: &str) -> u32 {
 }
 
 /// After the failure of any read nothing was written. One more isn't made.
-fn expect_failing_reads<R: Abort + Threads + Wait + Sync>(
-    rt: &R,
-    alloc: Global,
-    case: &Case<'_>,
-) -> Result<(), Fail> {
+fn expect_failing_reads<R: Abort + Threads + Wait + Sync>(rt: &R, alloc: Global, case: &Case<'_>) {
     let reads = reads_of(case.script);
     for failing_read in 1..reads.saturating_add(2) {
         let ends = Ends {
@@ -79,17 +74,12 @@ fn expect_failing_reads<R: Abort + Threads + Wait + Sync>(
         } else {
             (case.status, case.written.as_bytes())
         };
-        expect_at(rt, alloc, case, ends, status, written)?;
+        expect_at(rt, alloc, case, ends, status, written);
     }
-    Ok(())
 }
 
 /// After the failure of any write the lines before it were written. One more isn't made.
-fn expect_failing_writes<R: Abort + Threads + Wait + Sync>(
-    rt: &R,
-    alloc: Global,
-    case: &Case<'_>,
-) -> Result<(), Fail> {
+fn expect_failing_writes<R: Abort + Threads + Wait + Sync>(rt: &R, alloc: Global, case: &Case<'_>) {
     let lines = lines_of(case.written);
     for failing_write in 1..lines.saturating_add(2) {
         let ends = Ends {
@@ -102,35 +92,25 @@ fn expect_failing_writes<R: Abort + Threads + Wait + Sync>(
             case.status
         };
         let written = first_lines(case.written, failing_write.saturating_sub(1));
-        expect_at(rt, alloc, case, ends, status, written)?;
+        expect_at(rt, alloc, case, ends, status, written);
     }
-    Ok(())
 }
 
 /// How many bytes a call moves makes no difference.
-fn expect_any_step<R: Abort + Threads + Wait + Sync>(
-    rt: &R,
-    alloc: Global,
-    case: &Case<'_>,
-) -> Result<(), Fail> {
-    for step in [1, 2, 3, 7, 4096] {
+fn expect_any_step<R: Abort + Threads + Wait + Sync>(rt: &R, alloc: Global, case: &Case<'_>) {
+    for step in &[1, 2, 3, 7, 4096] {
         let ends = Ends {
-            read: step,
-            write: step,
+            read: *step,
+            write: *step,
             ..STEADY
         };
         let written = case.written.as_bytes();
-        expect_at(rt, alloc, case, ends, case.status, written)?;
+        expect_at(rt, alloc, case, ends, case.status, written);
     }
-    Ok(())
 }
 
 /// Where a sink takes one byte a call, the failure of a call leaves exactly the bytes before it.
-fn expect_failing_bytes<R: Abort + Threads + Wait + Sync>(
-    rt: &R,
-    alloc: Global,
-    case: &Case<'_>,
-) -> Result<(), Fail> {
+fn expect_failing_bytes<R: Abort + Threads + Wait + Sync>(rt: &R, alloc: Global, case: &Case<'_>) {
     let written = case.written.as_bytes();
     for count in 0..written.len().min(20) {
         let ends = Ends {
@@ -139,51 +119,41 @@ fn expect_failing_bytes<R: Abort + Threads + Wait + Sync>(
             ..STEADY
         };
         let status = Status::WriteFault;
-        expect_at(rt, alloc, case, ends, status, &written[..count])?;
+        expect_at(rt, alloc, case, ends, status, &written[..count]);
     }
-    Ok(())
 }
 
 /// A case over each failing read and write, and over short reads and writes.
-pub fn expect_each_fault<R: Abort + Threads + Wait + Sync>(
-    rt: &R,
-    alloc: Global,
-    case: &Case<'_>,
-) -> Result<(), Fail> {
-    expect_failing_reads(rt, alloc, case)?;
-    expect_failing_writes(rt, alloc, case)?;
-    expect_failing_bytes(rt, alloc, case)?;
-    expect_any_step(rt, alloc, case)
+pub fn expect_each_fault<R: Abort + Threads + Wait + Sync>(rt: &R, alloc: Global, case: &Case<'_>) {
+    expect_failing_reads(rt, alloc, case);
+    expect_failing_writes(rt, alloc, case);
+    expect_failing_bytes(rt, alloc, case);
+    expect_any_step(rt, alloc, case);
 }
 
 #[test]
-fn each_read_fails(rt: HostRuntime) -> Result<(), Fail> {
-    for case in READING {
-        expect_failing_reads(&rt, rt.alloc(), &case)?;
+fn each_read_fails(rt: HostRuntime) {
+    for case in &READING {
+        expect_failing_reads(&rt, rt.alloc(), case);
     }
-    Ok(())
 }
 
 #[test]
-fn each_write_fails(rt: HostRuntime) -> Result<(), Fail> {
-    for case in EACH_COMMAND {
-        expect_failing_writes(&rt, rt.alloc(), &case)?;
+fn each_write_fails(rt: HostRuntime) {
+    for case in &EACH_COMMAND {
+        expect_failing_writes(&rt, rt.alloc(), case);
     }
-    Ok(())
 }
 
 #[test]
-fn reads_and_writes_are_short(rt: HostRuntime) -> Result<(), Fail> {
-    for case in EACH_COMMAND {
-        expect_any_step(&rt, rt.alloc(), &case)?;
+fn reads_and_writes_are_short(rt: HostRuntime) {
+    for case in &EACH_COMMAND {
+        expect_any_step(&rt, rt.alloc(), case);
     }
-    Ok(())
 }
 
 #[test]
-fn each_byte_fails(rt: HostRuntime) -> Result<(), Fail> {
-    for case in [WELL, ONE_WORKER] {
-        expect_failing_bytes(&rt, rt.alloc(), &case)?;
-    }
-    Ok(())
+fn each_byte_fails(rt: HostRuntime) {
+    expect_failing_bytes(&rt, rt.alloc(), &WELL);
+    expect_failing_bytes(&rt, rt.alloc(), &ONE_WORKER);
 }

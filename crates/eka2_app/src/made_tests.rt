@@ -1,7 +1,6 @@
 //! Scripts that are made from a number, and printed or run.
 use crate::runs::{Case, Ends, STEADY, WELL, expect_cases, expect_usage};
 use crate::status::Status;
-use std::test::Fail;
 
 /// The script of the greatest seed with one round, worked out apart from the program.
 const MADE: &str = "\
@@ -91,12 +90,12 @@ const CASES: [Case<'static>; 4] = [
 ];
 
 #[test]
-fn scripts_are_made_and_loaded(rt: HostRuntime) -> Result<(), Fail> {
-    expect_cases(&rt, rt.alloc(), &CASES)
+fn scripts_are_made_and_loaded(rt: HostRuntime) {
+    expect_cases(&rt, rt.alloc(), &CASES);
 }
 
 #[test]
-fn numbers_are_canonical_and_in_range(rt: HostRuntime) -> Result<(), Fail> {
+fn numbers_are_canonical_and_in_range(rt: HostRuntime) {
     let wrong: [[&str; 2]; 9] = [
         ["1", "501"],
         ["1", "0"],
@@ -108,8 +107,7 @@ fn numbers_are_canonical_and_in_range(rt: HostRuntime) -> Result<(), Fail> {
         ["18446744073709551616", "1"],
         ["1", "4294967297"],
     ];
-    for [seed, size] in wrong {
-        expect_usage(&rt, rt.alloc(), &["make", seed, size])?;
+    for [seed, size] in &wrong {
+        expect_usage(&rt, rt.alloc(), &["make", seed, size]);
     }
-    Ok(())
 }

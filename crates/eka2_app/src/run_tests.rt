@@ -5,7 +5,6 @@ use crate::status::Status;
 use std::alloc::Global;
 use std::process::Abort;
 use std::sync::Wait;
-use std::test::Fail;
 use std::thread::Threads;
 use worked_examples::{
     CLOSING_SERVER_HISTORY, CLOSING_SERVER_SCRIPT, DEAD_OWNER_HISTORY, DEAD_OWNER_SCRIPT,
@@ -117,8 +116,8 @@ const CASES: [Case<'static>; 8] = [
 ];
 
 #[test]
-fn scripts_are_run(rt: HostRuntime) -> Result<(), Fail> {
-    expect_cases(&rt, rt.alloc(), &CASES)
+fn scripts_are_run(rt: HostRuntime) {
+    expect_cases(&rt, rt.alloc(), &CASES);
 }
 
 /// Runs a script that runs well, and compares what was written.
@@ -127,20 +126,18 @@ fn expect_written<R: Abort + Threads + Wait + Sync>(
     alloc: Global,
     script: &str,
     written: &str,
-) -> Result<(), Fail> {
+) {
     let bytes = script.as_bytes();
-    let outcome = outcome_of(rt, alloc, &["run"], bytes, STEADY, &OpenGate)?;
+    let outcome = outcome_of(rt, alloc, &["run"], bytes, STEADY, &OpenGate);
     assert_eq!(rt; outcome.status, Status::Done, "{script}");
     assert_eq!(rt; outcome.sink.bytes(), written.as_bytes(), "{script}");
-    Ok(())
 }
 
 #[test]
-fn worked_examples_are_run(rt: HostRuntime) -> Result<(), Fail> {
-    for (script, written) in EXAMPLES {
-        expect_written(&rt, rt.alloc(), script, written)?;
+fn worked_examples_are_run(rt: HostRuntime) {
+    for (script, written) in &EXAMPLES {
+        expect_written(&rt, rt.alloc(), script, written);
     }
-    Ok(())
 }
 
 /// Much room, for a longer run.
@@ -151,19 +148,18 @@ pub const ROOMY: Ends = Ends {
 };
 
 #[test]
-fn three_clients_come_and_go(rt: HostRuntime) -> Result<(), Fail> {
+fn three_clients_come_and_go(rt: HostRuntime) {
     let bytes = LOAD_SCRIPT.as_bytes();
-    let outcome = outcome_of(&rt, rt.alloc(), &["run"], bytes, ROOMY, &OpenGate)?;
+    let outcome = outcome_of(&rt, rt.alloc(), &["run"], bytes, ROOMY, &OpenGate);
     assert_eq!(rt; outcome.status, Status::Done);
     assert!(rt; outcome.sink.bytes().ends_with(LOAD_LEFT));
-    Ok(())
 }
 
 #[test]
-fn other_words_are_usage(rt: HostRuntime) -> Result<(), Fail> {
-    expect_usage(&rt, rt.alloc(), &[])?;
-    expect_usage(&rt, rt.alloc(), &["--help"])?;
-    expect_usage(&rt, rt.alloc(), &["run", "x"])
+fn other_words_are_usage(rt: HostRuntime) {
+    expect_usage(&rt, rt.alloc(), &[]);
+    expect_usage(&rt, rt.alloc(), &["--help"]);
+    expect_usage(&rt, rt.alloc(), &["run", "x"]);
 }
 
 /// Runs an input of so many line feeds, and compares the status and what was written.
@@ -173,22 +169,21 @@ fn expect_line_feeds<R: Abort + Threads + Wait + Sync>(
     count: usize,
     status: Status,
     written: &[u8],
-) -> Result<(), Fail> {
-    let bytes = vec![in alloc; b'\n'; count]?;
+) {
+    let bytes = vec![in alloc; b'\n'; count].expect(rt, "memory");
     let ends = Ends {
         read: 512,
         ..STEADY
     };
-    let outcome = outcome_of(rt, alloc, &["run"], bytes.as_slice(), ends, &OpenGate)?;
+    let outcome = outcome_of(rt, alloc, &["run"], bytes.as_slice(), ends, &OpenGate);
     assert_eq!(rt; outcome.status, status);
     assert_eq!(rt; outcome.sink.bytes(), written);
-    Ok(())
 }
 
 #[test]
-fn an_input_of_a_byte_too_many_is_too_large(rt: HostRuntime) -> Result<(), Fail> {
+fn an_input_of_a_byte_too_many_is_too_large(rt: HostRuntime) {
     let alloc = rt.alloc();
-    expect_line_feeds(&rt, alloc, 1_048_577, Status::TooLarge, b"".as_slice())?;
+    expect_line_feeds(&rt, alloc, 1_048_577, Status::TooLarge, b"".as_slice());
     let refusal = b"refused line 1048577 end\n".as_slice();
-    expect_line_feeds(&rt, alloc, 1_048_576, Status::Refused, refusal)
+    expect_line_feeds(&rt, alloc, 1_048_576, Status::Refused, refusal);
 }

@@ -3,10 +3,9 @@ use crate::gate::OpenGate;
 use crate::status::Status;
 use crate::top::eka2_main;
 use edge_io::{Gate, MemSink, MemSource};
-use std::alloc::{AllocError, Global};
+use std::alloc::Global;
 use std::process::Abort;
 use std::sync::Wait;
-use std::test::Fail;
 use std::thread::Threads;
 use worked_examples::{HANDLES_HISTORY, HANDLES_SCRIPT};
 
@@ -31,25 +30,26 @@ pub const STEADY: Ends = Ends {
 };
 
 /// The words of a command line.
-fn words_of(alloc: Global, texts: &[&str]) -> Result<Vec<String>, AllocError> {
+fn words_of<R: Abort>(rt: &R, alloc: Global, texts: &[&str]) -> Vec<String> {
     let mut words = Vec::new(alloc);
     for text in texts {
-        words.push(String::from_str(alloc, text)?)?;
+        let word = String::from_str(alloc, text).expect(rt, "memory");
+        words.push(word).expect(rt, "memory");
     }
-    Ok(words)
+    words
 }
 
 /// A source of some bytes.
-fn source_of(alloc: Global, bytes: &[u8], ends: Ends) -> Result<MemSource, AllocError> {
-    let bytes = Vec::from_slice(alloc, bytes)?;
-    let fails = Vec::from_slice(alloc, &[ends.failing_read])?;
-    Ok(MemSource::new(bytes, ends.read.max(1), fails))
+fn source_of<R: Abort>(rt: &R, alloc: Global, bytes: &[u8], ends: Ends) -> MemSource {
+    let bytes = Vec::from_slice(alloc, bytes).expect(rt, "memory");
+    let fails = Vec::from_slice(alloc, &[ends.failing_read]).expect(rt, "memory");
+    MemSource::new(bytes, ends.read.max(1), fails)
 }
 
 /// An empty sink.
-fn sink_of(alloc: Global, ends: Ends) -> Result<MemSink, AllocError> {
-    let fails = Vec::from_slice(alloc, &[ends.failing_write])?;
-    MemSink::new(alloc, ends.room, ends.write.max(1), fails)
+fn sink_of<R: Abort>(rt: &R, alloc: Global, ends: Ends) -> MemSink {
+    let fails = Vec::from_slice(alloc, &[ends.failing_write]).expect(rt, "memory");
+    MemSink::new(alloc, ends.room, ends.write.max(1), fails).expect(rt, "memory")
 }
 
 /// How a run ended, and what it wrote.
@@ -60,19 +60,19 @@ pub struct Outcome {
 }
 
 /// Runs words over some bytes, behind a gate.
-pub fn outcome_of<R: Threads + Wait + Sync, G: Gate + Sync>(
+pub fn outcome_of<R: Abort + Threads + Wait + Sync, G: Gate + Sync>(
     rt: &R,
     alloc: Global,
     words: &[&str],
     bytes: &[u8],
     ends: Ends,
     gate: &G,
-) -> Result<Outcome, AllocError> {
-    let words = words_of(alloc, words)?;
-    let mut source = source_of(alloc, bytes, ends)?;
-    let mut sink = sink_of(alloc, ends)?;
+) -> Outcome {
+    let words = words_of(rt, alloc, words);
+    let mut source = source_of(rt, alloc, bytes, ends);
+    let mut sink = sink_of(rt, alloc, ends);
     let status = eka2_main(rt, alloc, words.as_slice(), &mut source, &mut sink, gate);
-    Ok(Outcome { status, sink })
+    Outcome { status, sink }
 }
 
 /// Words over a script, how bytes come and go, and what is to come.
@@ -102,45 +102,30 @@ pub fn expect_at<R: Abort + Threads + Wait + Sync>(
     ends: Ends,
     status: Status,
     written: &[u8],
-) -> Result<(), Fail> {
+) {
     let script = case.script;
-    let outcome = outcome_of(rt, alloc, case.words, script.as_bytes(), ends, &OpenGate)?;
+    let outcome = outcome_of(rt, alloc, case.words, script.as_bytes(), ends, &OpenGate);
     assert_eq!(rt; outcome.status, status, "{script}");
     assert_eq!(rt; outcome.sink.bytes(), written, "{script}");
-    Ok(())
 }
 
 /// Runs a case, and compares the status and what was written.
-pub fn expect_case<R: Abort + Threads + Wait + Sync>(
-    rt: &R,
-    alloc: Global,
-    case: &Case<'_>,
-) -> Result<(), Fail> {
+pub fn expect_case<R: Abort + Threads + Wait + Sync>(rt: &R, alloc: Global, case: &Case<'_>) {
     let written = case.written.as_bytes();
-    expect_at(rt, alloc, case, case.ends, case.status, written)
+    expect_at(rt, alloc, case, case.ends, case.status, written);
 }
 
 /// Runs cases, one after the other.
-pub fn expect_cases<R: Abort + Threads + Wait + Sync>(
-    rt: &R,
-    alloc: Global,
-    cases: &[Case<'_>],
-) -> Result<(), Fail> {
+pub fn expect_cases<R: Abort + Threads + Wait + Sync>(rt: &R, alloc: Global, cases: &[Case<'_>]) {
     for case in cases {
-        expect_case(rt, alloc, case)?;
+        expect_case(rt, alloc, case);
     }
-    Ok(())
 }
 
 /// Words that are no command: the status is Usage, and nothing is written.
-pub fn expect_usage<R: Abort + Threads + Wait + Sync>(
-    rt: &R,
-    alloc: Global,
-    words: &[&str],
-) -> Result<(), Fail> {
+pub fn expect_usage<R: Abort + Threads + Wait + Sync>(rt: &R, alloc: Global, words: &[&str]) {
     let bytes = HANDLES_SCRIPT.as_bytes();
-    let outcome = outcome_of(rt, alloc, words, bytes, STEADY, &OpenGate)?;
+    let outcome = outcome_of(rt, alloc, words, bytes, STEADY, &OpenGate);
     assert_eq!(rt; outcome.status, Status::Usage);
     assert!(rt; outcome.sink.bytes().is_empty());
-    Ok(())
 }

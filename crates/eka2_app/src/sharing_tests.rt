@@ -5,7 +5,6 @@ use crate::runs::{Case, WELL, expect_cases, expect_usage, outcome_of};
 use crate::status::Status;
 use edge_io::Gate;
 use std::sync::atomic::{AtomicBool, AtomicU32, Ordering};
-use std::test::Fail;
 use worked_examples::{FINDS_HISTORY, FINDS_SCRIPT, LOAD_LEFT, LOAD_SCRIPT};
 
 /// The case of one worker.
@@ -36,12 +35,12 @@ const CASES: [Case<'static>; 3] = [
 ];
 
 #[test]
-fn one_worker_makes_the_run(rt: HostRuntime) -> Result<(), Fail> {
-    expect_cases(&rt, rt.alloc(), &CASES)
+fn one_worker_makes_the_run(rt: HostRuntime) {
+    expect_cases(&rt, rt.alloc(), &CASES);
 }
 
 #[test]
-fn workers_are_one_to_eight(rt: HostRuntime) -> Result<(), Fail> {
+fn workers_are_one_to_eight(rt: HostRuntime) {
     let wrong: [[&str; 3]; 6] = [
         ["share", "--workers", "0"],
         ["share", "--workers", "9"],
@@ -50,26 +49,24 @@ fn workers_are_one_to_eight(rt: HostRuntime) -> Result<(), Fail> {
         ["share", "workers", "1"],
         ["run", "--workers", "1"],
     ];
-    for words in wrong {
-        expect_usage(&rt, rt.alloc(), &words)?;
+    for words in &wrong {
+        expect_usage(&rt, rt.alloc(), words);
     }
-    for word in ["--workers=0", "--workers=9", "--workers=01", "--workers"] {
-        expect_usage(&rt, rt.alloc(), &["share", word])?;
+    for word in &["--workers=0", "--workers=9", "--workers=01", "--workers"] {
+        expect_usage(&rt, rt.alloc(), &["share", *word]);
     }
-    Ok(())
 }
 
 #[test]
-fn workers_bring_three_clients_home(rt: HostRuntime) -> Result<(), Fail> {
+fn workers_bring_three_clients_home(rt: HostRuntime) {
     let bytes = LOAD_SCRIPT.as_bytes();
     let words = ["share", "--workers", "1"];
-    let one = outcome_of(&rt, rt.alloc(), &words, bytes, ROOMY, &OpenGate)?;
+    let one = outcome_of(&rt, rt.alloc(), &words, bytes, ROOMY, &OpenGate);
     assert_eq!(rt; one.status, Status::Done);
     assert!(rt; one.sink.bytes().ends_with(LOAD_LEFT));
     let words = ["share", "--workers", "4"];
-    let four = outcome_of(&rt, rt.alloc(), &words, bytes, ROOMY, &OpenGate)?;
+    let four = outcome_of(&rt, rt.alloc(), &words, bytes, ROOMY, &OpenGate);
     assert_eq!(rt; four.status, Status::Done);
-    Ok(())
 }
 
 /// How often the first worker at the gate looks for a second one, at most.
@@ -97,15 +94,14 @@ impl Gate for Meeting {
 }
 
 #[test]
-fn two_workers_are_beside_one_another(rt: HostRuntime) -> Result<(), Fail> {
+fn two_workers_are_beside_one_another(rt: HostRuntime) {
     let gate = Meeting {
         came: AtomicU32::new(0),
         met: AtomicBool::new(false),
     };
     let words = ["share", "--workers", "2"];
     let bytes = FINDS_SCRIPT.as_bytes();
-    let outcome = outcome_of(&rt, rt.alloc(), &words, bytes, ROOMY, &gate)?;
+    let outcome = outcome_of(&rt, rt.alloc(), &words, bytes, ROOMY, &gate);
     assert_eq!(rt; outcome.status, Status::Done);
     assert!(rt; gate.met.load(Ordering::SeqCst));
-    Ok(())
 }

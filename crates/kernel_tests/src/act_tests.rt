@@ -8,7 +8,6 @@ use plain_runs::{lines_of, script_of};
 use ref_words::PlainWords;
 use script_types::Script;
 use std::alloc::Global;
-use std::test::Fail;
 use sym_base::{NoMemory, ObjNo};
 use worked_examples::DYING_OBJECT_SCRIPT;
 
@@ -39,13 +38,8 @@ fn told_by_last(alloc: Global, script: Script) -> Result<Vec<u8>, NoMemory>
 }
 
 #[test]
-fn a_thread_that_is_not_chosen_acts(rt: HostRuntime) -> Result<(), Fail> {
-    let Some(script) = script_of(rt.alloc(), DYING_OBJECT_SCRIPT) else {
-        return Err("no script".into());
-    };
-    let Ok(told) = told_by_last(rt.alloc(), script) else {
-        return Err("no kernel".into());
-    };
+fn a_thread_that_is_not_chosen_acts(rt: HostRuntime) {
+    let script = script_of(rt.alloc(), DYING_OBJECT_SCRIPT).expect(&rt, "a script");
+    let told = told_by_last(rt.alloc(), script).expect(&rt, "a kernel");
     assert_eq!(rt; told.as_slice(), b"1 t4 open.seek = -1\n".as_slice());
-    Ok(())
 }

@@ -10,7 +10,8 @@ use kcore::{Kernel, places_for};
 use plain_runs::{NUMBERS, Ran, Rows, ran_of, script_of};
 use ref_words::PlainWords;
 use script_types::{Script, Slot};
-use std::alloc::{AllocError, Global};
+use std::alloc::Global;
+use std::process::Abort;
 use sym_base::NoMemory;
 
 /// What the kernel made of a script.
@@ -37,12 +38,13 @@ fn take_slots(kernel: &mut Kernel<PlainWords>, slots: &[Slot])
 }
 
 /// The lines of the objects that are left.
-fn rows_of(alloc: Global, kernel: &Kernel<PlainWords>) -> Result<Rows, AllocError> {
+fn rows_of<R: Abort>(rt: &R, alloc: Global, kernel: &Kernel<PlainWords>) -> Rows {
     let mut rows = Rows::new(alloc);
     for number in 0..NUMBERS {
-        rows.add(number, kernel.next_row(number))?;
+        rows.add(number, kernel.next_row(number))
+            .expect(rt, "memory");
     }
-    Ok(rows)
+    rows
 }
 
 /// What callers do to make this entry, which one caller alone makes in this slot: a thread comes back by itself, and whatever
@@ -55,20 +57,21 @@ fn deed_like(entry: &Entry, slot: Slot) -> Deed {
 }
 
 /// What callers do to make a history that one caller alone makes in these slots.
-fn deeds_like(alloc: Global, history: &[Entry], slots: &[Slot]) -> Result<Vec<Deed>, AllocError> {
+fn deeds_like<R: Abort>(rt: &R, alloc: Global, history: &[Entry], slots: &[Slot]) -> Vec<Deed> {
     let mut deeds = Vec::new(alloc);
     for (entry, slot) in history.iter().zip(slots) {
-        deeds.push(deed_like(entry, *slot))?;
+        deeds.push(deed_like(entry, *slot)).expect(rt, "memory");
     }
-    Ok(deeds)
+    deeds
 }
 
 /// What the kernel makes of its script's schedule.
-fn alone_in(
+fn alone_in<R: Abort>(
+    rt: &R,
     alloc: Global,
     kernel: &mut Kernel<PlainWords>,
     slots: &[Slot],
-) -> Result<Alone, NoMemory>
+) -> Alone
     requires valid { IsWellFormed kernel.old.script }
     requires slots { slots.now ≡ kernel.old.script.slots }
     requires room { kernel.old.room ≡ length slots.now }
@@ -76,29 +79,27 @@ fn alone_in(
     requires fresh { kernel.old.mode ≡ Fresh }
 {
     take_slots(kernel, slots);
-    let rows = rows_of(alloc, kernel)?;
-    let ran = ran_of(alloc, kernel.history(), rows)?;
-    let tale = tale_of(alloc, kernel.history())?;
-    let deeds = deeds_like(alloc, kernel.history(), slots)?;
-    Ok(Alone { ran, tale, deeds })
+    let rows = rows_of(rt, alloc, kernel);
+    let ran = ran_of(alloc, kernel.history(), rows).expect(rt, "memory");
+    let tale = tale_of(alloc, kernel.history()).expect(rt, "memory");
+    let deeds = deeds_like(rt, alloc, kernel.history(), slots);
+    Alone { ran, tale, deeds }
 }
 
 /// What a kernel makes of a script.
 #[tactic(auto, using(machine_laws::proofs::ValidSlots::valid_slots_few))]
-fn alone_by(alloc: Global, script: Script) -> Result<Alone, NoMemory>
+fn alone_by<R: Abort>(rt: &R, alloc: Global, script: Script) -> Result<Alone, NoMemory>
     requires { IsWellFormed script }
 {
     let slots = script.slots.copied(alloc)?;
     let room = slots.len() as u32;
     let words = PlainWords::new(alloc, places_for(script.version, room))?;
     let mut kernel = Box::new(alloc, Kernel::boot(alloc, script, words, room)?)?;
-    alone_in(alloc, &mut kernel, slots.as_slice())
+    Ok(alone_in(rt, alloc, &mut kernel, slots.as_slice()))
 }
 
-/// What a kernel makes of a text. None where it has no run.
-pub fn alone_of(alloc: Global, text: &str) -> Option<Alone> {
-    match script_of(alloc, text) {
-        Some(script) => alone_by(alloc, script).ok(),
-        None => None,
-    }
+/// What a kernel makes of a text.
+pub fn alone_of<R: Abort>(rt: &R, alloc: Global, text: &str) -> Alone {
+    let script = script_of(alloc, text).expect(rt, "a script");
+    alone_by(rt, alloc, script).expect(rt, "a kernel")
 }

@@ -3,7 +3,6 @@ use crate::alone::alone_of;
 use crate::told::{Told, told_as_alone, told_at_once};
 use std::alloc::Global;
 use std::process::Abort;
-use std::test::Fail;
 use worked_examples::{
     CLOSING_SERVER_HISTORY, CLOSING_SERVER_SCRIPT, CONNECTING_HISTORY, CONNECTING_SCRIPT,
     DEAD_OWNER_HISTORY, DEAD_OWNER_SCRIPT, DEAD_THREAD_HISTORY, DEAD_THREAD_SCRIPT, DEATHS_SCRIPT,
@@ -38,54 +37,42 @@ const AT_ONCE: [Example; 3] = [
 ];
 
 /// Compares what callers made of a script with what was expected, and with what the plain machine makes.
-pub fn expect_told<R: Abort>(
-    rt: &R,
-    script: &str,
-    made: Option<Told>,
-    expected: &str,
-) -> Result<(), Fail> {
-    let Some(told) = made else {
-        return Err("no callers".into());
-    };
+pub fn expect_told<R: Abort>(rt: &R, script: &str, told: &Told, expected: &str) {
     assert_eq!(rt; told.ran.text.as_slice(), expected.as_bytes(), "{script}");
     assert!(rt; told.is_plain, "{script}");
-    Ok(())
 }
 
 #[test]
-fn callers_make_what_one_alone_makes(rt: HostRuntime) -> Result<(), Fail> {
-    for (script, history) in ALIKE {
-        expect_told(&rt, script, told_as_alone(rt.alloc(), script), history)?;
+fn callers_make_what_one_alone_makes(rt: HostRuntime) {
+    for (script, history) in &ALIKE {
+        expect_told(
+            &rt,
+            script,
+            &told_as_alone(&rt, rt.alloc(), script),
+            history,
+        );
     }
-    Ok(())
 }
 
 #[test]
-fn notes_come_back_at_once(rt: HostRuntime) -> Result<(), Fail> {
-    for (script, history) in AT_ONCE {
-        expect_told(&rt, script, told_at_once(rt.alloc(), script), history)?;
+fn notes_come_back_at_once(rt: HostRuntime) {
+    for (script, history) in &AT_ONCE {
+        expect_told(&rt, script, &told_at_once(&rt, rt.alloc(), script), history);
     }
-    Ok(())
 }
 
 /// Compares what one caller alone makes of a text's schedule with what callers make who share the kernel and come back at once:
 /// places, returns and the entries of nobody aside.
-fn expect_both_ways<R: Abort>(rt: &R, alloc: Global, script: &str) -> Result<(), Fail> {
-    let Some(alone) = alone_of(alloc, script) else {
-        return Err("no kernel".into());
-    };
-    let Some(told) = told_at_once(alloc, script) else {
-        return Err("no callers".into());
-    };
+fn expect_both_ways<R: Abort>(rt: &R, alloc: Global, script: &str) {
+    let alone = alone_of(rt, alloc, script);
+    let told = told_at_once(rt, alloc, script);
     assert_eq!(rt; alone.tale.as_slice(), told.tale.as_slice(), "{script}");
     assert!(rt; told.is_plain, "{script}");
-    Ok(())
 }
 
 #[test]
-fn both_ways_tell_the_same(rt: HostRuntime) -> Result<(), Fail> {
-    for script in [HANDLES_SCRIPT, DEATHS_SCRIPT, DYING_SERVER_SCRIPT] {
-        expect_both_ways(&rt, rt.alloc(), script)?;
+fn both_ways_tell_the_same(rt: HostRuntime) {
+    for script in &[HANDLES_SCRIPT, DEATHS_SCRIPT, DYING_SERVER_SCRIPT] {
+        expect_both_ways(&rt, rt.alloc(), script);
     }
-    Ok(())
 }

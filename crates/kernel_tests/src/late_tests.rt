@@ -3,7 +3,6 @@ use crate::caller_tests::expect_told;
 use crate::callers::Deed;
 use crate::told::told_after;
 use script_types::Slot;
-use std::test::Fail;
 use sym_base::ObjNo;
 use worked_examples::{DYING_OBJECT_HISTORY, DYING_OBJECT_SCRIPT};
 
@@ -245,10 +244,9 @@ const LATE: [Late<'static>; 6] = [
 ];
 
 #[test]
-fn notes_come_back_late(rt: HostRuntime) -> Result<(), Fail> {
-    for late in LATE {
-        let made = told_after(rt.alloc(), late.script, late.deeds);
-        expect_told(&rt, late.script, made, late.history)?;
+fn notes_come_back_late(rt: HostRuntime) {
+    for late in &LATE {
+        let told = told_after(&rt, rt.alloc(), late.script, late.deeds);
+        expect_told(&rt, late.script, &told, late.history);
     }
-    Ok(())
 }

@@ -3,20 +3,15 @@ use crate::alone::alone_of;
 use plain_runs::ran_plain;
 use std::alloc::Global;
 use std::process::Abort;
-use std::test::Fail;
 use worked_examples::{
     DEATHS_SCRIPT, DYING_OBJECT_SCRIPT, DYING_SERVER_SCRIPT, HANDLES_SCRIPT, Storm, checksum,
     endings, killed_client, killed_clients, killed_servers, stormy_reapings,
 };
 
 /// Compares what both machines make of a text.
-fn expect_same<R: Abort>(rt: &R, alloc: Global, script: &str) -> Result<(), Fail> {
-    let Some(plain) = ran_plain(alloc, script) else {
-        return Err("no plain machine".into());
-    };
-    let Some(alone) = alone_of(alloc, script) else {
-        return Err("no kernel".into());
-    };
+fn expect_same<R: Abort>(rt: &R, alloc: Global, script: &str) {
+    let plain = ran_plain(alloc, script).expect(rt, "a plain machine");
+    let alone = alone_of(rt, alloc, script);
     assert_eq!(rt;
         alone.ran.text.as_slice(),
         plain.text.as_slice(),
@@ -27,20 +22,18 @@ fn expect_same<R: Abort>(rt: &R, alloc: Global, script: &str) -> Result<(), Fail
         plain.rows.as_slice(),
         "{script}"
     );
-    Ok(())
 }
 
 #[test]
-fn both_machines_make_one_history(rt: HostRuntime) -> Result<(), Fail> {
-    for script in [
+fn both_machines_make_one_history(rt: HostRuntime) {
+    for script in &[
         HANDLES_SCRIPT,
         DYING_OBJECT_SCRIPT,
         DEATHS_SCRIPT,
         DYING_SERVER_SCRIPT,
     ] {
-        expect_same(&rt, rt.alloc(), script)?;
+        expect_same(&rt, rt.alloc(), script);
     }
-    Ok(())
 }
 
 /// The checksum of what the plain machine makes of a text. None where it has no run.
@@ -60,28 +53,23 @@ fn expect_sums<R: Abort>(rt: &R, alloc: Global, storms: &[Storm]) {
 }
 
 #[test]
-fn the_plain_machine_kills_a_client_after_each_slot(rt: HostRuntime) -> Result<(), Fail> {
-    let storms = killed_clients(rt.alloc())?;
+fn the_plain_machine_kills_a_client_after_each_slot(rt: HostRuntime) {
+    let storms = killed_clients(rt.alloc()).expect(&rt, "memory");
     expect_sums(&rt, rt.alloc(), storms.as_slice());
-    Ok(())
 }
 
 #[test]
-fn the_plain_machine_kills_a_server_after_each_slot(rt: HostRuntime) -> Result<(), Fail> {
-    let storms = killed_servers(rt.alloc())?;
+fn the_plain_machine_kills_a_server_after_each_slot(rt: HostRuntime) {
+    let storms = killed_servers(rt.alloc()).expect(&rt, "memory");
     expect_sums(&rt, rt.alloc(), storms.as_slice());
-    Ok(())
 }
 
 #[test]
-fn the_plain_machine_reaps_among_interrupts_and_ends_in_each_order(
-    rt: HostRuntime,
-) -> Result<(), Fail> {
-    let storms = stormy_reapings(rt.alloc())?;
+fn the_plain_machine_reaps_among_interrupts_and_ends_in_each_order(rt: HostRuntime) {
+    let storms = stormy_reapings(rt.alloc()).expect(&rt, "memory");
     expect_sums(&rt, rt.alloc(), storms.as_slice());
-    let storms = endings(rt.alloc())?;
+    let storms = endings(rt.alloc()).expect(&rt, "memory");
     expect_sums(&rt, rt.alloc(), storms.as_slice());
-    Ok(())
 }
 
 /// What is told of the client's kill.
@@ -98,13 +86,10 @@ fn has(text: &[u8], bytes: &[u8]) -> bool {
 }
 
 #[test]
-fn an_interrupt_before_the_request_kills_nobody(rt: HostRuntime) -> Result<(), Fail> {
+fn an_interrupt_before_the_request_kills_nobody(rt: HostRuntime) {
     for after in 0..6 {
-        let script = killed_client(rt.alloc(), after)?;
-        let Some(alone) = alone_of(rt.alloc(), script.as_str()) else {
-            return Err("no kernel".into());
-        };
+        let script = killed_client(rt.alloc(), after).expect(&rt, "memory");
+        let alone = alone_of(&rt, rt.alloc(), script.as_str());
         assert_eq!(rt; has(alone.ran.text.as_slice(), KILL), after == 5);
     }
-    Ok(())
 }

@@ -6,8 +6,8 @@ use crate::callers::{Callers, Deed};
 use crate::tales::tale_of;
 use plain_runs::{NUMBERS, Ran, Rows, is_plain_too, ran_of, script_of};
 use script_types::{Script, Slot};
-use std::alloc::{AllocError, Global};
-use sym_base::NoMemory;
+use std::alloc::Global;
+use std::process::Abort;
 
 /// What callers made of a text's script.
 #[derive(Drop)]
@@ -27,78 +27,68 @@ fn do_all(callers: &mut Callers, deeds: &[Deed]) {
 }
 
 /// The lines of the objects that are left.
-fn rows_of(alloc: Global, callers: &Callers) -> Result<Rows, AllocError> {
+fn rows_of<R: Abort>(rt: &R, alloc: Global, callers: &Callers) -> Rows {
     let mut rows = Rows::new(alloc);
     for number in 0..NUMBERS {
-        rows.add(number, callers.next_row(number))?;
+        rows.add(number, callers.next_row(number))
+            .expect(rt, "memory");
     }
-    Ok(rows)
+    rows
 }
 
 /// What these callers make of a text's script by all this.
-fn told_in(
+fn told_in<R: Abort>(
+    rt: &R,
     alloc: Global,
     text: &str,
     callers: &mut Callers,
     deeds: &[Deed],
-) -> Result<Told, NoMemory> {
+) -> Told {
     do_all(callers, deeds);
-    let rows = rows_of(alloc, callers)?;
-    let ran = ran_of(alloc, callers.history(), rows)?;
-    let tale = tale_of(alloc, callers.history())?;
     let is_plain = is_plain_too(alloc, text, callers.history());
-    Ok(Told {
+    let rows = rows_of(rt, alloc, callers);
+    let ran = ran_of(alloc, callers.history(), rows).expect(rt, "memory");
+    let tale = tale_of(alloc, callers.history()).expect(rt, "memory");
+    Told {
         ran,
         tale,
         is_plain,
-    })
+    }
 }
 
 /// What callers make of a script and its text by all this.
-fn told_by(alloc: Global, text: &str, script: Script, deeds: &[Deed]) -> Result<Told, NoMemory>
+fn told_by<R: Abort>(rt: &R, alloc: Global, text: &str, script: Script, deeds: &[Deed]) -> Told
     requires { IsWellFormed script }
 {
-    let mut callers = Box::new(alloc, Callers::new(alloc, script)?)?;
-    told_in(alloc, text, &mut callers, deeds)
+    let made = Callers::new(alloc, script).expect(rt, "callers");
+    let mut callers = Box::new(alloc, made).expect(rt, "memory");
+    told_in(rt, alloc, text, &mut callers, deeds)
 }
 
-/// What callers make of a text's script by all this. None where there is no memory, or the script is refused.
-pub fn told_after(alloc: Global, text: &str, deeds: &[Deed]) -> Option<Told> {
-    match script_of(alloc, text) {
-        Some(script) => told_by(alloc, text, script, deeds).ok(),
-        None => None,
-    }
+/// What callers make of a text's script by all this.
+pub fn told_after<R: Abort>(rt: &R, alloc: Global, text: &str, deeds: &[Deed]) -> Told {
+    let script = script_of(alloc, text).expect(rt, "a script");
+    told_by(rt, alloc, text, script, deeds)
 }
 
 /// What callers make who do what one caller alone does.
-pub fn told_as_alone(alloc: Global, text: &str) -> Option<Told> {
-    match alone_of(alloc, text) {
-        Some(alone) => told_after(alloc, text, alone.deeds.as_slice()),
-        None => None,
-    }
+pub fn told_as_alone<R: Abort>(rt: &R, alloc: Global, text: &str) -> Told {
+    let alone = alone_of(rt, alloc, text);
+    told_after(rt, alloc, text, alone.deeds.as_slice())
 }
 
 /// Each of these slots comes, and whoever finds an object comes back at once.
-fn deeds_at_once(alloc: Global, slots: &[Slot]) -> Result<Vec<Deed>, AllocError> {
+fn deeds_at_once<R: Abort>(rt: &R, alloc: Global, slots: &[Slot]) -> Vec<Deed> {
     let mut deeds = Vec::new(alloc);
     for slot in slots {
-        deeds.push(Deed::AtOnce(*slot))?;
+        deeds.push(Deed::AtOnce(*slot)).expect(rt, "memory");
     }
-    Ok(deeds)
-}
-
-/// What callers make of a script and its text who come back from each find at once.
-fn told_at_once_by(alloc: Global, text: &str, script: Script) -> Result<Told, NoMemory>
-    requires { IsWellFormed script }
-{
-    let deeds = deeds_at_once(alloc, script.slots.as_slice())?;
-    told_by(alloc, text, script, deeds.as_slice())
+    deeds
 }
 
 /// What callers make of a text's schedule who come back from each find at once.
-pub fn told_at_once(alloc: Global, text: &str) -> Option<Told> {
-    match script_of(alloc, text) {
-        Some(script) => told_at_once_by(alloc, text, script).ok(),
-        None => None,
-    }
+pub fn told_at_once<R: Abort>(rt: &R, alloc: Global, text: &str) -> Told {
+    let script = script_of(alloc, text).expect(rt, "a script");
+    let deeds = deeds_at_once(rt, alloc, script.slots.as_slice());
+    told_by(rt, alloc, text, script, deeds.as_slice())
 }

@@ -1,7 +1,6 @@
 //! What the lines of a whole file declare, by the lines that name it before.
-use crate::tests::answer;
-use script_read::{ReadScript, Reason};
-use std::test::Fail;
+use crate::tests::is_refused;
+use script_read::Reason;
 
 /// Lines in any order, with spaces, comments and bad lines among them. They follow a line that names something, and none
 /// of them that isn't skipped may stand there: the second is the first bad one.
@@ -66,27 +65,20 @@ const NAMINGS: [Naming; 11] = [
 const INTERRUPTS: &str = "eka2 1\nidfc i device d0 1\nirq 7 idfc i\nschedule\nirq 7\nirq 8\nend\n";
 
 #[test]
-fn keeps_what_each_line_declares(rt: HostRuntime) -> Result<(), Fail> {
+fn keeps_what_each_line_declares(rt: HostRuntime) {
     for naming in &NAMINGS {
         let named = naming.line;
-        let text = format!(in rt.alloc(); "eka2 1\n{named}\n{FILE}")?;
-        let ReadScript::Refused { line, reason } = answer(rt.alloc(), text.as_bytes()) else {
-            return Err("a bad line is accepted".into());
-        };
-        if naming.is_known {
-            assert!(rt; line == 4 && reason == Reason::Order, "{named}");
+        let text = format!(in rt.alloc(); "eka2 1\n{named}\n{FILE}").expect(&rt, "memory");
+        let is_well = if naming.is_known {
+            is_refused(rt.alloc(), text.as_bytes(), 4, Reason::Order)
         } else {
-            assert!(rt; line == 2 && reason == Reason::Unknown, "{named}");
-        }
+            is_refused(rt.alloc(), text.as_bytes(), 2, Reason::Unknown)
+        };
+        assert!(rt; is_well, "{named}");
     }
-    Ok(())
 }
 
 #[test]
-fn no_slot_declares_an_interrupt(rt: HostRuntime) -> Result<(), Fail> {
-    let ReadScript::Refused { line, reason } = answer(rt.alloc(), INTERRUPTS.as_bytes()) else {
-        return Err("an interrupt is known".into());
-    };
-    assert!(rt; line == 6 && reason == Reason::Unknown);
-    Ok(())
+fn no_slot_declares_an_interrupt(rt: HostRuntime) {
+    assert!(rt; is_refused(rt.alloc(), INTERRUPTS.as_bytes(), 6, Reason::Unknown));
 }

@@ -5,7 +5,6 @@ use entry_log::{
     entry_text, final_text,
 };
 use std::process::Abort;
-use std::test::Fail;
 use sym_base::{Exit, ExitKind, Kind, MsgNo, Name, ObjNo, read_name};
 
 fn one(first: Effect) -> Effects {
@@ -29,30 +28,46 @@ fn three(first: Effect, second: Effect, third: Effect) -> Effects {
     effects
 }
 
-fn by(number: u16) -> Actor {
-    Actor::Thread(ObjNo(number))
+/// The effects of an entry: one, two or three, and else none.
+fn effects_of(listed: &[Effect]) -> Effects {
+    match listed {
+        [first] => one(*first),
+        [first, second] => two(*first, *second),
+        [first, second, third] => three(*first, *second, *third),
+        _ => Effects::new(),
+    }
 }
 
-/// The line of an entry with these parts.
-fn shows(
-    rt: &impl Abort,
+/// The parts of an entry, and its line.
+#[derive(Clone, Copy)]
+struct Shown {
     place: u32,
     actor: Actor,
     step: Step,
-    effects: Effects,
+    effects: &'static [Effect],
     answer: Option<i32>,
-    expected: &[u8],
-) {
+    line: &'static str,
+}
+
+/// Compares the line of an entry with what was wanted.
+fn expect_line(rt: &impl Abort, shown: &Shown) {
     let entry = Entry {
-        place,
-        actor,
-        step,
-        effects,
-        answer,
+        place: shown.place,
+        actor: shown.actor,
+        step: shown.step,
+        effects: effects_of(shown.effects),
+        answer: shown.answer,
     };
     let mut out = ArrayVec::new();
     assert!(rt; entry_text(&entry, &mut out));
-    assert_eq!(rt; out.as_slice(), expected);
+    assert_eq!(rt; out.as_slice(), shown.line.as_bytes());
+}
+
+/// Compares the lines of entries with what was wanted.
+fn expect_lines(rt: &impl Abort, all: &[Shown]) {
+    for shown in all {
+        expect_line(rt, shown);
+    }
 }
 
 /// The line of a row with these parts.
@@ -77,253 +92,235 @@ fn shows_row(
     assert_eq!(rt; out.as_slice(), expected);
 }
 
+/// Entries that give references and take them away.
+const REFERENCES: [Shown; 5] = [
+    Shown {
+        place: 1,
+        actor: Actor::Thread(ObjNo(3)),
+        step: Step::Of(Word::Server, Part::Do),
+        effects: &[
+            Effect::Plus(Holder::Own(ObjNo(3)), ObjNo(6)),
+            Effect::Plus(Holder::InThread(ObjNo(3), 0), ObjNo(6)),
+        ],
+        answer: Some(1_073_807_360),
+        line: "1 t3 server.do +own3:6 +t3.0:6 = 1073807360\n",
+    },
+    Shown {
+        place: 6,
+        actor: Actor::Thread(ObjNo(5)),
+        step: Step::Of(Word::Connect, Part::Make),
+        effects: &[
+            Effect::Plus(Holder::InThread(ObjNo(5), 0), ObjNo(7)),
+            Effect::Plus(Holder::Link(ObjNo(7)), ObjNo(6)),
+        ],
+        answer: None,
+        line: "6 t5 connect.make +t5.0:7 +lnk7:6\n",
+    },
+    Shown {
+        place: 6,
+        actor: Actor::Thread(ObjNo(3)),
+        step: Step::Of(Word::Close, Part::Do),
+        effects: &[
+            Effect::Minus(Holder::InProcess(ObjNo(2), 1), ObjNo(4)),
+            Effect::Dead(ObjNo(4)),
+        ],
+        answer: Some(0),
+        line: "6 t3 close.do -p2.1:4 dead:4 = 0\n",
+    },
+    Shown {
+        place: 2,
+        actor: Actor::Thread(ObjNo(3)),
+        step: Step::Of(Word::Dup, Part::Look),
+        effects: &[Effect::Plus(Holder::Temp(ObjNo(3)), ObjNo(4))],
+        answer: None,
+        line: "2 t3 dup.look +tmp3:4\n",
+    },
+    Shown {
+        place: 12,
+        actor: Actor::Thread(ObjNo(1)),
+        step: Step::Drop,
+        effects: &[
+            Effect::Minus(Holder::Kernel, ObjNo(3)),
+            Effect::Dead(ObjNo(3)),
+        ],
+        answer: None,
+        line: "12 t1 drop -krn:3 dead:3\n",
+    },
+];
+
+/// Entries of messages, requests and locks.
+const MESSAGES_AND_LOCKS: [Shown; 6] = [
+    Shown {
+        place: 8,
+        actor: Actor::Thread(ObjNo(5)),
+        step: Step::Of(Word::Connect, Part::Send),
+        effects: &[
+            Effect::Accept(MsgNo(1)),
+            Effect::Plus(Holder::Message(MsgNo(1)), ObjNo(7)),
+            Effect::Plus(Holder::Message(MsgNo(1)), ObjNo(5)),
+        ],
+        answer: None,
+        line: "8 t5 connect.send accept:1 +msg1:7 +msg1:5\n",
+    },
+    Shown {
+        place: 11,
+        actor: Actor::Thread(ObjNo(3)),
+        step: Step::Of(Word::Complete, Part::Do),
+        effects: &[
+            Effect::Finish(MsgNo(1), 0),
+            Effect::Signal(ObjNo(5), StatusNo::Sync, 0),
+        ],
+        answer: Some(0),
+        line: "11 t3 complete.do finish:1:0 signal:5:w:0 = 0\n",
+    },
+    Shown {
+        place: 50,
+        actor: Actor::Thread(ObjNo(3)),
+        step: Step::Finish,
+        effects: &[
+            Effect::Finish(MsgNo(2), -15),
+            Effect::Signal(ObjNo(5), StatusNo::Async(0), -15),
+        ],
+        answer: None,
+        line: "50 t3 finish finish:2:-15 signal:5:0:-15\n",
+    },
+    Shown {
+        place: 20,
+        actor: Actor::Thread(ObjNo(3)),
+        step: Step::Free,
+        effects: &[
+            Effect::Give(ObjNo(3), LockNo::Object(ObjNo(6))),
+            Effect::Take(ObjNo(5), LockNo::Object(ObjNo(6))),
+            Effect::Plus(Holder::Own(ObjNo(5)), ObjNo(6)),
+        ],
+        answer: None,
+        line: "20 t3 free give:3:6 take:5:6 +own5:6\n",
+    },
+    Shown {
+        place: 18,
+        actor: Actor::Thread(ObjNo(2)),
+        step: Step::Of(Word::Funlock, Part::Do),
+        effects: &[
+            Effect::Give(ObjNo(2), LockNo::Fast(0)),
+            Effect::Doom(ObjNo(2)),
+        ],
+        answer: Some(0),
+        line: "18 t2 funlock.do give:2:f0 doom:2 = 0\n",
+    },
+    Shown {
+        place: 65,
+        actor: Actor::Thread(ObjNo(3)),
+        step: Step::Stop,
+        effects: &[
+            Effect::Terminated(ObjNo(8)),
+            Effect::Minus(Holder::Own(ObjNo(3)), ObjNo(8)),
+        ],
+        answer: None,
+        line: "65 t3 stop ended:8 -own3:8\n",
+    },
+];
+
+/// Entries of other steps.
+const OTHER_STEPS: [Shown; 7] = [
+    Shown {
+        place: 4,
+        actor: Actor::Thread(ObjNo(4)),
+        step: Step::Of(Word::Open, Part::Seek),
+        effects: &[Effect::Seek(ObjNo(5))],
+        answer: None,
+        line: "4 t4 open.seek seek:5\n",
+    },
+    Shown {
+        place: 16,
+        actor: Actor::Thread(ObjNo(4)),
+        step: Step::Of(Word::Open, Part::Return),
+        effects: &[Effect::Missed(ObjNo(5))],
+        answer: Some(-1),
+        line: "16 t4 open.return missed:5 = -1\n",
+    },
+    Shown {
+        place: 7,
+        actor: Actor::Thread(ObjNo(3)),
+        step: Step::Sweep,
+        effects: &[Effect::Swept(ObjNo(4))],
+        answer: None,
+        line: "7 t3 sweep swept:4\n",
+    },
+    Shown {
+        place: 11,
+        actor: Actor::Thread(ObjNo(1)),
+        step: Step::Bury,
+        effects: &[Effect::Bury(ObjNo(3))],
+        answer: None,
+        line: "11 t1 bury bury:3\n",
+    },
+    Shown {
+        place: 5,
+        actor: Actor::Irq(0),
+        step: Step::Run,
+        effects: &[],
+        answer: None,
+        line: "5 irq0 run\n",
+    },
+    Shown {
+        place: 2,
+        actor: Actor::Tick,
+        step: Step::Turn,
+        effects: &[],
+        answer: None,
+        line: "2 tick turn\n",
+    },
+    Shown {
+        place: 16,
+        actor: Actor::Idle,
+        step: Step::Wait,
+        effects: &[],
+        answer: None,
+        line: "16 idle wait\n",
+    },
+];
+
 #[test]
 fn references(rt: HostRuntime) {
-    let server = two(
-        Effect::Plus(Holder::Own(ObjNo(3)), ObjNo(6)),
-        Effect::Plus(Holder::InThread(ObjNo(3), 0), ObjNo(6)),
-    );
-    shows(
-        &rt,
-        1,
-        by(3),
-        Step::Of(Word::Server, Part::Do),
-        server,
-        Some(1073807360),
-        b"1 t3 server.do +own3:6 +t3.0:6 = 1073807360\n",
-    );
-    let session = two(
-        Effect::Plus(Holder::InThread(ObjNo(5), 0), ObjNo(7)),
-        Effect::Plus(Holder::Link(ObjNo(7)), ObjNo(6)),
-    );
-    shows(
-        &rt,
-        6,
-        by(5),
-        Step::Of(Word::Connect, Part::Make),
-        session,
-        None,
-        b"6 t5 connect.make +t5.0:7 +lnk7:6\n",
-    );
-    let closed = two(
-        Effect::Minus(Holder::InProcess(ObjNo(2), 1), ObjNo(4)),
-        Effect::Dead(ObjNo(4)),
-    );
-    shows(
-        &rt,
-        6,
-        by(3),
-        Step::Of(Word::Close, Part::Do),
-        closed,
-        Some(0),
-        b"6 t3 close.do -p2.1:4 dead:4 = 0\n",
-    );
-    let used = one(Effect::Plus(Holder::Temp(ObjNo(3)), ObjNo(4)));
-    shows(
-        &rt,
-        2,
-        by(3),
-        Step::Of(Word::Dup, Part::Look),
-        used,
-        None,
-        b"2 t3 dup.look +tmp3:4\n",
-    );
-    let last = two(
-        Effect::Minus(Holder::Kernel, ObjNo(3)),
-        Effect::Dead(ObjNo(3)),
-    );
-    shows(
-        &rt,
-        12,
-        by(1),
-        Step::Drop,
-        last,
-        None,
-        b"12 t1 drop -krn:3 dead:3\n",
-    );
+    expect_lines(&rt, &REFERENCES);
 }
 
 #[test]
 fn messages_and_locks(rt: HostRuntime) {
-    let sent = three(
-        Effect::Accept(MsgNo(1)),
-        Effect::Plus(Holder::Message(MsgNo(1)), ObjNo(7)),
-        Effect::Plus(Holder::Message(MsgNo(1)), ObjNo(5)),
-    );
-    shows(
-        &rt,
-        8,
-        by(5),
-        Step::Of(Word::Connect, Part::Send),
-        sent,
-        None,
-        b"8 t5 connect.send accept:1 +msg1:7 +msg1:5\n",
-    );
-    let completed = two(
-        Effect::Finish(MsgNo(1), 0),
-        Effect::Signal(ObjNo(5), StatusNo::Sync, 0),
-    );
-    shows(
-        &rt,
-        11,
-        by(3),
-        Step::Of(Word::Complete, Part::Do),
-        completed,
-        Some(0),
-        b"11 t3 complete.do finish:1:0 signal:5:w:0 = 0\n",
-    );
-    let ended = two(
-        Effect::Finish(MsgNo(2), -15),
-        Effect::Signal(ObjNo(5), StatusNo::Async(0), -15),
-    );
-    shows(
-        &rt,
-        50,
-        by(3),
-        Step::Finish,
-        ended,
-        None,
-        b"50 t3 finish finish:2:-15 signal:5:0:-15\n",
-    );
-    let passed = three(
-        Effect::Give(ObjNo(3), LockNo::Object(ObjNo(6))),
-        Effect::Take(ObjNo(5), LockNo::Object(ObjNo(6))),
-        Effect::Plus(Holder::Own(ObjNo(5)), ObjNo(6)),
-    );
-    shows(
-        &rt,
-        20,
-        by(3),
-        Step::Free,
-        passed,
-        None,
-        b"20 t3 free give:3:6 take:5:6 +own5:6\n",
-    );
-    let given = two(
-        Effect::Give(ObjNo(2), LockNo::Fast(0)),
-        Effect::Doom(ObjNo(2)),
-    );
-    shows(
-        &rt,
-        18,
-        by(2),
-        Step::Of(Word::Funlock, Part::Do),
-        given,
-        Some(0),
-        b"18 t2 funlock.do give:2:f0 doom:2 = 0\n",
-    );
-    let stopped = two(
-        Effect::Terminated(ObjNo(8)),
-        Effect::Minus(Holder::Own(ObjNo(3)), ObjNo(8)),
-    );
-    shows(
-        &rt,
-        65,
-        by(3),
-        Step::Stop,
-        stopped,
-        None,
-        b"65 t3 stop ended:8 -own3:8\n",
-    );
+    expect_lines(&rt, &MESSAGES_AND_LOCKS);
+}
+
+/// The line of an entry of a deferred function call, which has no effects.
+fn expect_call(rt: &impl Abort, place: u32, actor: Actor, step: Step, line: &'static str) {
+    let shown = Shown {
+        place,
+        actor,
+        step,
+        effects: &[],
+        answer: None,
+        line,
+    };
+    expect_line(rt, &shown);
 }
 
 #[test]
-fn other_steps(rt: HostRuntime) -> Result<(), Fail> {
-    let Some(name) = read_name(b"lo") else {
-        return Err(Fail::from("a name"));
-    };
-    shows(
-        &rt,
-        4,
-        by(4),
-        Step::Of(Word::Open, Part::Seek),
-        one(Effect::Seek(ObjNo(5))),
-        None,
-        b"4 t4 open.seek seek:5\n",
-    );
-    shows(
-        &rt,
-        16,
-        by(4),
-        Step::Of(Word::Open, Part::Return),
-        one(Effect::Missed(ObjNo(5))),
-        Some(-1),
-        b"16 t4 open.return missed:5 = -1\n",
-    );
-    shows(
-        &rt,
-        7,
-        by(3),
-        Step::Sweep,
-        one(Effect::Swept(ObjNo(4))),
-        None,
-        b"7 t3 sweep swept:4\n",
-    );
-    shows(
-        &rt,
-        11,
-        by(1),
-        Step::Bury,
-        one(Effect::Bury(ObjNo(3))),
-        None,
-        b"11 t1 bury bury:3\n",
-    );
-    shows(
+fn other_steps(rt: HostRuntime) {
+    expect_lines(&rt, &OTHER_STEPS);
+    let name = read_name(b"lo").expect(&rt, "a name");
+    expect_call(
         &rt,
         6,
-        by(2),
+        Actor::Thread(ObjNo(2)),
         Step::RunOf(name),
-        Effects::new(),
-        None,
-        b"6 t2 lo.run\n",
+        "6 t2 lo.run\n",
     );
-    shows(
-        &rt,
-        4,
-        Actor::Idfc,
-        Step::MoveOf(name),
-        Effects::new(),
-        None,
-        b"4 idfc lo.move\n",
-    );
-    shows(
-        &rt,
-        5,
-        Actor::Irq(0),
-        Step::Run,
-        Effects::new(),
-        None,
-        b"5 irq0 run\n",
-    );
-    shows(
-        &rt,
-        2,
-        Actor::Tick,
-        Step::Turn,
-        Effects::new(),
-        None,
-        b"2 tick turn\n",
-    );
-    shows(
-        &rt,
-        16,
-        Actor::Idle,
-        Step::Wait,
-        Effects::new(),
-        None,
-        b"16 idle wait\n",
-    );
-    Ok(())
+    expect_call(&rt, 4, Actor::Idfc, Step::MoveOf(name), "4 idfc lo.move\n");
 }
 
 #[test]
-fn rows(rt: HostRuntime) -> Result<(), Fail> {
-    let Some(name) = read_name(b"k") else {
-        return Err(Fail::from("a name"));
-    };
-    let Some(category) = read_name(b"E32USER-CBase") else {
-        return Err(Fail::from("a category"));
-    };
+fn rows(rt: HostRuntime) {
+    let name = read_name(b"k").expect(&rt, "a name");
+    let category = read_name(b"E32USER-CBase").expect(&rt, "a category");
     let killed = Exit {
         kind: ExitKind::Kill,
         category: Name::EMPTY,
@@ -363,5 +360,4 @@ fn rows(rt: HostRuntime) -> Result<(), Fail> {
         None,
         b"7 session - 3\n",
     );
-    Ok(())
 }

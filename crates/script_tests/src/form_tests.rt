@@ -5,8 +5,7 @@ use script_print::print_script;
 use script_read::ReadScript;
 use script_words::{Fault, is_counted, keyword_of, line_fault, second_of, take_words, word_at};
 use std::alloc::Global;
-use std::test::Fail;
-use sym_base::NoMemory;
+use std::process::Abort;
 
 /// Lines of each kind of operand with a number that is just past an end of its range.
 const PAST_THE_ENDS: [&str; 47] = [
@@ -59,39 +58,40 @@ const PAST_THE_ENDS: [&str; 47] = [
     "peek 1024",
 ];
 
-/// What is wrong with the words of a line. None where it has no first word of a line.
-fn fault_of(alloc: Global, text: &str) -> Result<Option<Fault>, NoMemory> {
-    let mut words = Vec::new(alloc);
-    take_words(&mut words, text.as_bytes())?;
-    let words = words.as_slice();
-    let Some(keyword) = keyword_of(word_at(words, 0)) else {
-        return Ok(None);
-    };
+/// What is wrong with the words of a line. None where they have no first word of a line.
+fn fault_in(words: &[&[u8]]) -> Option<Fault> {
+    let keyword = keyword_of(word_at(words, 0))?;
     let second = second_of(false, keyword, words);
-    if !is_counted(keyword, second, words) {
-        return Ok(None);
+    if is_counted(keyword, second, words) {
+        line_fault(keyword, second, words)
+    } else {
+        None
     }
-    Ok(line_fault(keyword, second, words))
+}
+
+/// What is wrong with a line.
+fn fault_of<R: Abort>(rt: &R, alloc: Global, text: &str) -> Option<Fault> {
+    let mut words = Vec::new(alloc);
+    take_words(&mut words, text.as_bytes()).expect(rt, "memory");
+    fault_in(words.as_slice())
 }
 
 #[test]
-fn reads_and_prints_every_form(rt: HostRuntime) -> Result<(), Fail> {
+fn reads_and_prints_every_form(rt: HostRuntime) {
     let ReadScript::Script(script) = answer(rt.alloc(), EVERY_FORM.as_bytes()) else {
-        return Err("a line is bad".into());
+        panic!(rt; "a line is bad");
     };
     assert!(rt; is_every_form(&script));
-    let printed = print_script(rt.alloc(), &script)?;
+    let printed = print_script(rt.alloc(), &script).expect(&rt, "memory");
     assert!(rt; printed.as_slice() == EVERY_FORM.as_bytes());
-    Ok(())
 }
 
 #[test]
-fn knows_the_ends_of_ranges(rt: HostRuntime) -> Result<(), Fail> {
+fn knows_the_ends_of_ranges(rt: HostRuntime) {
     for text in &PAST_THE_ENDS {
         assert!(rt;
-            matches!(fault_of(rt.alloc(), text)?, Some(Fault::Range)),
+            matches!(fault_of(&rt, rt.alloc(), text), Some(Fault::Range)),
             "{text}"
         );
     }
-    Ok(())
 }

@@ -20,4 +20,6 @@ mod number_tests;
 #[cfg(test)]
 mod print_tests;
 #[cfg(test)]
+mod same;
+#[cfg(test)]
 mod tests;

@@ -1,7 +1,7 @@
 //! Scripts that were made, against what was worked out apart from the program.
+use crate::same::expect_same;
 use load_maker::make_script;
 use script_print::print_script;
-use std::test::Fail;
 
 /// The first lines of seed 7 and three rounds.
 const HEAD: &str = "eka2 1\nprocess fs\nthread sv 30\nserver files r0\n";
@@ -21,29 +21,34 @@ const CLIENTS: [&str; 5] = [
 ];
 
 #[test]
-fn seed_7_with_3_rounds(rt: HostRuntime) -> Result<(), Fail> {
-    let mut wanted = HEAD.as_bytes().to_vec(rt.alloc())?;
+fn seed_7_with_3_rounds(rt: HostRuntime) {
+    let mut wanted = HEAD.as_bytes().to_vec(rt.alloc()).expect(&rt, "memory");
     for _ in 0..MESSAGES {
-        wanted.extend_from_slice(SERVED.as_bytes())?;
+        wanted
+            .extend_from_slice(SERVED.as_bytes())
+            .expect(&rt, "memory");
     }
-    for client in CLIENTS {
-        wanted.extend_from_slice(client.as_bytes())?;
+    for client in &CLIENTS {
+        wanted
+            .extend_from_slice(client.as_bytes())
+            .expect(&rt, "memory");
     }
-    let script = make_script(rt.alloc(), 7, 3)?;
-    assert_eq!(rt;
-        print_script(rt.alloc(), &script)?.as_slice(),
-        wanted.as_slice()
+    let script = make_script(rt.alloc(), 7, 3).expect(&rt, "memory");
+    expect_same(
+        &rt,
+        print_script(rt.alloc(), &script)
+            .expect(&rt, "memory")
+            .as_slice(),
+        wanted.as_slice(),
     );
-    Ok(())
 }
 
 /// Of 400 rounds drawn from seed 7, 199 send a message, so that with those of connections the server serves 207.
 #[test]
-fn seed_7_with_100_rounds(rt: HostRuntime) -> Result<(), Fail> {
-    let script = make_script(rt.alloc(), 7, 100)?;
-    assert_eq!(rt; script.slots.len(), 6200);
+fn seed_7_with_100_rounds(rt: HostRuntime) {
+    let script = make_script(rt.alloc(), 7, 100).expect(&rt, "memory");
+    expect_same(&rt, script.slots.len(), 6200);
     let threads = script.threads.as_slice();
-    assert_eq!(rt; threads.len(), 5);
-    assert_eq!(rt; threads[0].instrs.len(), 1 + 2 * 207);
-    Ok(())
+    expect_same(&rt, threads.len(), 5);
+    expect_same(&rt, threads[0].instrs.len(), 1 + 2 * 207);
 }

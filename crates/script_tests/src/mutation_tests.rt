@@ -4,10 +4,8 @@ use crate::tests::{SCRIPT, TWO_THREADS};
 use script_print::print_script;
 use script_read::{ReadScript, read_script};
 use script_words::take_words;
-use std::alloc::{AllocError, Global};
+use std::alloc::Global;
 use std::process::Abort;
-use std::test::Fail;
-use sym_base::NoMemory;
 
 /// How many texts are made of each script.
 const ROUNDS: u32 = 150;
@@ -64,22 +62,24 @@ fn between(text: &[u8], from: usize, upto: usize) -> &[u8] {
 }
 
 /// A text in which a copy of one piece stands in the place of another.
-fn changed(alloc: Global, draws: &mut Draws, text: &[u8]) -> Result<Vec<u8>, AllocError> {
+fn changed<R: Abort>(rt: &R, alloc: Global, draws: &mut Draws, text: &[u8]) -> Vec<u8> {
     let (from, upto) = piece(draws, text);
     let (copied_from, copied_upto) = piece(draws, text);
-    let mut made = Vec::from_slice(alloc, between(text, 0, from))?;
-    made.extend_from_slice(between(text, copied_from, copied_upto))?;
-    made.extend_from_slice(between(text, upto, text.len()))?;
-    Ok(made)
+    let mut made = Vec::from_slice(alloc, between(text, 0, from)).expect(rt, "memory");
+    made.extend_from_slice(between(text, copied_from, copied_upto))
+        .expect(rt, "memory");
+    made.extend_from_slice(between(text, upto, text.len()))
+        .expect(rt, "memory");
+    made
 }
 
 /// A text after one to three changes.
-fn changed_often(alloc: Global, draws: &mut Draws, text: &str) -> Result<Vec<u8>, AllocError> {
-    let mut made = changed(alloc, draws, text.as_bytes())?;
+fn changed_often<R: Abort>(rt: &R, alloc: Global, draws: &mut Draws, text: &str) -> Vec<u8> {
+    let mut made = changed(rt, alloc, draws, text.as_bytes());
     for _change in 0..draws.below(3) {
-        made = changed(alloc, draws, made.as_slice())?;
+        made = changed(rt, alloc, draws, made.as_slice());
     }
-    Ok(made)
+    made
 }
 
 /// What reading a text answers.
@@ -92,14 +92,14 @@ enum Outcome {
 }
 
 /// Reads a text, and prints what it is accepted as.
-fn read_and_print(alloc: Global, text: &[u8]) -> Result<Outcome, NoMemory> {
-    if text.len() > 1_000_000 {
-        return Err(NoMemory);
-    }
+fn read_and_print<R: Abort>(rt: &R, alloc: Global, text: &[u8]) -> Outcome {
+    assert!(rt; text.len() <= 1_000_000);
     match read_script(alloc, text) {
-        ReadScript::Script(script) => Ok(Outcome::Accepted(print_script(alloc, &script)?)),
-        ReadScript::Refused { line, .. } => Ok(Outcome::Refused(line)),
-        ReadScript::NoMemory => Err(NoMemory),
+        ReadScript::Script(script) => Outcome::Accepted(print_script(alloc, &script).expect(
+            rt, "memory",
+        )),
+        ReadScript::Refused { line, .. } => Outcome::Refused(line),
+        ReadScript::NoMemory => panic!(rt; "no memory"),
     }
 }
 
@@ -120,61 +120,67 @@ fn is_kept(words: &[&[u8]]) -> bool {
 }
 
 /// The words of the lines that each text of a script has, a space behind each word and a line feed behind each line.
-fn bare(alloc: Global, text: &[u8]) -> Result<Vec<u8>, NoMemory> {
+fn bare<R: Abort>(rt: &R, alloc: Global, text: &[u8]) -> Vec<u8> {
     let mut made = Vec::new(alloc);
     let mut words = Vec::new(alloc);
     for line in text.split(|byte| *byte == b'\n') {
-        take_words(&mut words, line)?;
+        take_words(&mut words, line).expect(rt, "memory");
         if is_kept(words.as_slice()) {
             for word in words.as_slice() {
-                made.extend_from_slice(word)?;
-                made.push(b' ')?;
+                made.extend_from_slice(word).expect(rt, "memory");
+                made.push(b' ').expect(rt, "memory");
             }
-            made.push(b'\n')?;
+            made.push(b'\n').expect(rt, "memory");
         }
     }
-    Ok(made)
+    made
 }
 
 /// Whether a canonical text has the words of the text that it comes from, and is read to the script that it is of.
-fn is_same_script(alloc: Global, text: &[u8], canonical: &[u8]) -> Result<bool, NoMemory> {
-    let Outcome::Accepted(again) = read_and_print(alloc, canonical)? else {
-        return Ok(false);
+fn is_same_script<R: Abort>(rt: &R, alloc: Global, text: &[u8], canonical: &[u8]) -> bool {
+    let Outcome::Accepted(again) = read_and_print(rt, alloc, canonical) else {
+        return false;
     };
-    let told = bare(alloc, text)?;
-    let printed = bare(alloc, canonical)?;
-    Ok(again.as_slice() == canonical && printed.as_slice() == told.as_slice())
+    let told = bare(rt, alloc, text);
+    let printed = bare(rt, alloc, canonical);
+    again.as_slice() == canonical && printed.as_slice() == told.as_slice()
 }
 
 /// Whether a text is accepted. The test stops where its canonical text is read to another script, or where the line
 /// that is refused isn't there.
-fn is_accepted<R: Abort>(rt: &R, alloc: Global, text: &[u8]) -> Result<bool, Fail> {
-    match read_and_print(alloc, text)? {
+fn is_accepted<R: Abort>(rt: &R, alloc: Global, text: &[u8]) -> bool {
+    match read_and_print(rt, alloc, text) {
         Outcome::Accepted(canonical) => {
-            assert!(rt; is_same_script(alloc, text, canonical.as_slice())?);
-            Ok(true)
+            assert!(rt; is_same_script(rt, alloc, text, canonical.as_slice()));
+            true
         }
         Outcome::Refused(line) => {
             let feeds = text.iter().filter(|byte| **byte == b'\n').count();
             assert!(rt; 0 < line && line as usize <= feeds.saturating_add(2));
-            Ok(false)
+            false
         }
     }
 }
 
-#[test]
-fn what_is_accepted_is_printed_and_read_again(rt: HostRuntime) -> Result<(), Fail> {
-    let alloc = rt.alloc();
-    let mut draws = Draws { state: 1 };
+/// How many of the texts are accepted that are made of a script.
+fn accepted_of<R: Abort>(rt: &R, alloc: Global, draws: &mut Draws, script: &str) -> u32 {
     let mut accepted = 0u32;
-    for script in [SCRIPT, TWO_THREADS, EVERY_FORM] {
-        for _round in 0..ROUNDS {
-            let text = changed_often(alloc, &mut draws, script)?;
-            if is_accepted(&rt, alloc, text.as_slice())? {
-                accepted = accepted.saturating_add(1);
-            }
+    for _round in 0..ROUNDS {
+        let text = changed_often(rt, alloc, draws, script);
+        if is_accepted(rt, alloc, text.as_slice()) {
+            accepted = accepted.saturating_add(1);
         }
     }
+    accepted
+}
+
+#[test]
+fn what_is_accepted_is_printed_and_read_again(rt: HostRuntime) {
+    let alloc = rt.alloc();
+    let mut draws = Draws { state: 1 };
+    let first = accepted_of(&rt, alloc, &mut draws, SCRIPT);
+    let second = accepted_of(&rt, alloc, &mut draws, TWO_THREADS);
+    let third = accepted_of(&rt, alloc, &mut draws, EVERY_FORM);
+    let accepted = first.saturating_add(second).saturating_add(third);
     assert!(rt; 50 < accepted && accepted < 400, "{accepted}");
-    Ok(())
 }

@@ -3,7 +3,6 @@ use script_read::{ReadScript, Reason, RunFault, read_script};
 use script_types::{Instr, Script, Slot};
 use std::alloc::Global;
 use std::process::Abort;
-use std::test::Fail;
 use sym_base::Kind;
 
 /// A whole script.
@@ -133,9 +132,9 @@ fn is_accepted(alloc: Global, text: &[u8]) -> bool {
 }
 
 /// Whether this line of a text is its first bad one, for this reason.
-fn is_refused(alloc: Global, bad: &BadText) -> bool {
-    match answer(alloc, bad.text.as_bytes()) {
-        ReadScript::Refused { line, reason } => line == bad.line && reason == bad.reason,
+pub fn is_refused(alloc: Global, text: &[u8], bad_line: u32, why: Reason) -> bool {
+    match answer(alloc, text) {
+        ReadScript::Refused { line, reason } => line == bad_line && reason == why,
         _ => false,
     }
 }
@@ -188,60 +187,57 @@ fn expect_worked_script(rt: &impl Abort, alloc: Global, text: &str) {
 }
 
 #[test]
-fn reads_a_script(rt: HostRuntime) -> Result<(), Fail> {
+fn reads_a_script(rt: HostRuntime) {
     expect_worked_script(&rt, rt.alloc(), SCRIPT);
     expect_worked_script(&rt, rt.alloc(), SPACED_SCRIPT);
-    Ok(())
 }
 
 #[test]
-fn reads_several_threads(rt: HostRuntime) -> Result<(), Fail> {
+fn reads_several_threads(rt: HostRuntime) {
     match answer(rt.alloc(), TWO_THREADS.as_bytes()) {
         ReadScript::Script(script) => assert!(rt; is_script_of_two_threads(&script)),
         _ => assert!(rt; false, "the script is refused"),
     }
-    Ok(())
 }
 
 #[test]
-fn tells_the_first_bad_line(rt: HostRuntime) -> Result<(), Fail> {
+fn tells_the_first_bad_line(rt: HostRuntime) {
     for bad in &BAD_TEXTS {
         let text = bad.text;
-        assert!(rt; is_refused(rt.alloc(), bad), "{text}");
+        assert!(rt;
+            is_refused(rt.alloc(), text.as_bytes(), bad.line, bad.reason),
+            "{text}"
+        );
     }
-    Ok(())
 }
 
 /// A script is accepted whole, and where only its last line feed is missing.
 #[test]
-fn refuses_a_script_that_is_cut(rt: HostRuntime) -> Result<(), Fail> {
+fn refuses_a_script_that_is_cut(rt: HostRuntime) {
     let text = SCRIPT.as_bytes();
     for end in 0..text.len() + 1 {
         let is_whole = end + 1 >= text.len();
         assert!(rt; is_accepted(rt.alloc(), &text[..end]) == is_whole, "{end}");
     }
-    Ok(())
 }
 
 /// Names of 16 letters, priority 63, 65,536 slots and lines of 200 bytes are the most.
 #[test]
-fn reads_the_greatest_numbers(rt: HostRuntime) -> Result<(), Fail> {
+fn reads_the_greatest_numbers(rt: HostRuntime) {
     let text =
         "eka2 1\nprocess p\nthread abcdefghijklmnop 63\nschedule\ngo 65536\nend\n#0123456789012345678901234567890123456789012345678901234567890123456789012345678901234567890123456789012345678901234567890123456789012345678901234567890123456789012345678901234567890123456789012345678\n";
     match answer(rt.alloc(), text.as_bytes()) {
         ReadScript::Script(script) => assert_eq!(rt; script.slots.len(), 65_536),
         _ => assert!(rt; false, "the script is refused"),
     }
-    Ok(())
 }
 
 #[test]
-fn words_of_reasons(rt: HostRuntime) -> Result<(), Fail> {
+fn words_of_reasons(rt: HostRuntime) {
     let fault = RunFault::Refused {
         line: 3,
         reason: Reason::Twice,
     };
-    let text = format!(in rt.alloc(); "{fault}")?;
+    let text = format!(in rt.alloc(); "{fault}").expect(&rt, "memory");
     assert_eq!(rt; text.as_str(), "refused line 3 twice");
-    Ok(())
 }

@@ -13,7 +13,6 @@ use shared_kernel::{Pass, SharedKernel};
 use std::alloc::{AllocError, Global};
 use std::process::Abort;
 use std::sync::Wait;
-use std::test::Fail;
 use sym_base::{NoMemory, ObjNo};
 
 /// A thread makes a mutex and closes it, and another opens it by its name.
@@ -241,51 +240,47 @@ fn expect_story<R: Abort + Wait>(
     script: &str,
     story: Story,
     expected: &str,
-) -> Result<(), Fail> {
-    let Some(read) = script_of(alloc, script) else {
-        return Err("no script".into());
-    };
-    let Ok(Some(lines)) = told_by(rt, alloc, read, story) else {
-        return Err("a call answered otherwise".into());
-    };
+) {
+    let read = script_of(alloc, script).expect(rt, "a script");
+    let told = told_by(rt, alloc, read, story).expect(rt, "memory");
+    let lines = told.expect(rt, "the answer of each call");
     assert_eq!(rt; lines.as_slice(), expected.as_bytes());
-    Ok(())
 }
 
 #[test]
-fn an_object_stays_for_the_caller_that_opened_it(rt: HostRuntime) -> Result<(), Fail> {
-    expect_story(&rt, rt.alloc(), TWO_SCRIPT, Story::OpenInTime, HELD_HISTORY)
+fn an_object_stays_for_the_caller_that_opened_it(rt: HostRuntime) {
+    expect_story(&rt, rt.alloc(), TWO_SCRIPT, Story::OpenInTime, HELD_HISTORY);
 }
 
 #[test]
-fn a_caller_that_opens_too_late_finds_an_object_dead(rt: HostRuntime) -> Result<(), Fail> {
+fn a_caller_that_opens_too_late_finds_an_object_dead(rt: HostRuntime) {
     expect_story(
         &rt,
         rt.alloc(),
         TWO_SCRIPT,
         Story::OpenTooLate,
         DEAD_HISTORY,
-    )
+    );
 }
 
 #[test]
-fn what_lives_by_a_ticket_alone_is_not_found(rt: HostRuntime) -> Result<(), Fail> {
+fn what_lives_by_a_ticket_alone_is_not_found(rt: HostRuntime) {
     expect_story(
         &rt,
         rt.alloc(),
         THREE_SCRIPT,
         Story::FindNothing,
         UNFOUND_HISTORY,
-    )
+    );
 }
 
 #[test]
-fn a_later_object_of_a_number_is_not_opened(rt: HostRuntime) -> Result<(), Fail> {
+fn a_later_object_of_a_number_is_not_opened(rt: HostRuntime) {
     expect_story(
         &rt,
         rt.alloc(),
         AGAIN_SCRIPT,
         Story::OpenAfterAnother,
         AGAIN_HISTORY,
-    )
+    );
 }

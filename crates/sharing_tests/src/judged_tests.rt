@@ -8,7 +8,6 @@ use script_types::Script;
 use std::alloc::Global;
 use std::process::Abort;
 use std::sync::Wait;
-use std::test::Fail;
 use std::thread::Threads;
 use sym_base::NoMemory;
 use worked_examples::{
@@ -78,15 +77,13 @@ fn expect_judged_well<R: Abort + Threads + Wait + Sync>(rt: &R, alloc: Global, t
 }
 
 #[test]
-fn the_plain_machine_makes_what_workers_made(rt: HostRuntime) -> Result<(), Fail> {
-    for text in JUDGED {
+fn the_plain_machine_makes_what_workers_made(rt: HostRuntime) {
+    for text in &JUDGED {
         expect_judged_well(&rt, rt.alloc(), text);
     }
-    Ok(())
 }
 
 #[test]
-fn the_plain_machine_makes_what_four_workers_made_of_a_load(rt: HostRuntime) -> Result<(), Fail> {
+fn the_plain_machine_makes_what_four_workers_made_of_a_load(rt: HostRuntime) {
     assert!(rt; is_judged_well(&rt, rt.alloc(), LOAD_SCRIPT, 4));
-    Ok(())
 }

@@ -11,7 +11,6 @@ use script_types::Script;
 use shared_kernel::{Pass, SharedKernel};
 use std::alloc::{AllocError, Global};
 use std::sync::Wait;
-use std::test::Fail;
 use std::thread;
 use std::thread::Threads;
 use sym_base::{NoMemory, ObjNo, ThreadNo};
@@ -85,14 +84,10 @@ fn is_driven_well<R: Threads + Wait + Sync>(
 }
 
 #[test]
-fn the_plain_machine_makes_what_callers_made_in_threads(rt: HostRuntime) -> Result<(), Fail> {
-    let alloc = rt.alloc();
-    for text in [THREE_SCRIPT, FINDS_SCRIPT] {
-        let Some(script) = script_of(alloc, text) else {
-            return Err("no script".into());
-        };
-        let well = is_driven_well(&rt, alloc, script, text);
+fn the_plain_machine_makes_what_callers_made_in_threads(rt: HostRuntime) {
+    for text in &[THREE_SCRIPT, FINDS_SCRIPT] {
+        let script = script_of(rt.alloc(), text).expect(&rt, "a script");
+        let well = is_driven_well(&rt, rt.alloc(), script, text);
         assert!(rt; matches!(well, Ok(true)), "{text}");
     }
-    Ok(())
 }

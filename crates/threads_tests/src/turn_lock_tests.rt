@@ -5,9 +5,9 @@ ghost use Rattle.turn_lock.specs.Passes.{IsFree, caller_of};
 
 use entry_log::{Actor, Effects, Entry, Step};
 use std::alloc::{AllocError, Global};
+use std::process::Abort;
 use std::sync::Wait;
 use std::sync::atomic::{AtomicU16, Ordering};
-use std::test::Fail;
 use std::thread;
 use std::thread::Threads;
 use sym_base::{NoMemory, ObjNo};
@@ -143,30 +143,35 @@ fn each_once(list: &[Entry], counts: &mut [u32]) -> bool {
     counts.iter().all(|count| *count == TURNS * ENTRIES)
 }
 
-#[test]
-fn one_caller_appends_each_entry_once(rt: HostRuntime) -> Result<(), Fail> {
-    let list = list_of(&rt, rt.alloc(), 1)?;
-    assert!(rt; each_once(&list, &mut [0; 1]));
-    Ok(())
+/// Compares the list of so many callers with what it should have, with a count for each of them.
+fn expect_each_once<R: Abort + Threads + Wait + Sync>(
+    rt: &R,
+    alloc: Global,
+    callers: u32,
+    counts: &mut [u32],
+)
+    requires { (0 < callers) × (callers ≤ 16) }
+{
+    let list = list_of(rt, alloc, callers).expect(rt, "memory");
+    assert!(rt; each_once(&list, counts));
 }
 
 #[test]
-fn two_callers_append_each_entry_once(rt: HostRuntime) -> Result<(), Fail> {
-    let list = list_of(&rt, rt.alloc(), 2)?;
-    assert!(rt; each_once(&list, &mut [0; 2]));
-    Ok(())
+fn one_caller_appends_each_entry_once(rt: HostRuntime) {
+    expect_each_once(&rt, rt.alloc(), 1, &mut [0; 1]);
 }
 
 #[test]
-fn four_callers_append_each_entry_once(rt: HostRuntime) -> Result<(), Fail> {
-    let list = list_of(&rt, rt.alloc(), 4)?;
-    assert!(rt; each_once(&list, &mut [0; 4]));
-    Ok(())
+fn two_callers_append_each_entry_once(rt: HostRuntime) {
+    expect_each_once(&rt, rt.alloc(), 2, &mut [0; 2]);
 }
 
 #[test]
-fn eight_callers_append_each_entry_once(rt: HostRuntime) -> Result<(), Fail> {
-    let list = list_of(&rt, rt.alloc(), 8)?;
-    assert!(rt; each_once(&list, &mut [0; 8]));
-    Ok(())
+fn four_callers_append_each_entry_once(rt: HostRuntime) {
+    expect_each_once(&rt, rt.alloc(), 4, &mut [0; 4]);
+}
+
+#[test]
+fn eight_callers_append_each_entry_once(rt: HostRuntime) {
+    expect_each_once(&rt, rt.alloc(), 8, &mut [0; 8]);
 }
