@@ -158,7 +158,9 @@ fn expect_one_story<R: Abort + Threads + Sync>(rt: &R, alloc: Global) {
     let ((mut words, left), ((one, first), (two, second))) = join(
         rt,
         move || closing(words),
-        || opening_both(rt, one, two),
+        ||
+            requires { (one.found ≡ None) × (two.found ≡ None) }
+        { opening_both(rt, one, two) },
     );
     match (left, first, second) {
         (Closed::Stays, Found::Held, Found::Held) => expect_both_held(rt, &mut words, one, two),
