@@ -49,6 +49,6 @@ fn seed_7_with_100_rounds(rt: HostRuntime) {
     let script = make_script(rt.alloc(), 7, 100).expect(&rt, "memory");
     expect_same(&rt, script.slots.len(), 6200);
     let threads = script.threads.as_slice();
-    expect_same(&rt, threads.len(), 5);
+    assert_eq!(rt; threads.len(), 5);
     expect_same(&rt, threads[0].instrs.len(), 1 + 2 * 207);
 }
