@@ -11,17 +11,18 @@ ghost use Rattle.machine.specs.Boot.{boot, born, nano_of, ready_at_boot, uses_ag
 ghost use Rattle.machine.specs.Choice.{priority_of};
 ghost use Rattle.state_rows.specs.HandleSlots.{fresh_slot};
 ghost use Rattle.machine.specs.WellFormed.{AreApart};
+ghost use Rattle.state_rows.specs.MessageChanges.{no_messages};
 ghost use Rattle.state_rows.specs.Nano.{suspend_count};
 ghost use Rattle.state_rows.specs.RequestChanges.{new_rows as request_rows};
 ghost use Rattle.cleanup.specs.Lists.{empty_lists};
 ghost use Rattle.table_moves.specs.Notes.{no_notes};
-ghost use Rattle.kcore.specs.BootTable.{AreEmpty, AreTables, AreThreadTables, born_priority, born_rows};
+ghost use Rattle.kcore.specs.BootTable.{AreTables, AreThreadTables, born_priority, born_rows, no_servers};
 ghost use Rattle.kernel_tables.specs.Noted.{AreKept};
 ghost use Rattle.kernel_tables.specs.ReadyQueues.{AreReady};
 ghost use Rattle.kernel_tables.specs.StateOf.{slots_of, state_of};
 
 use crate::boot_objects::counted;
-use crate::boot_tables::{locks_of, priority_at, procs_of, server_tables};
+use crate::boot_tables::{ServerTables, locks_of, priority_at, procs_of, server_tables};
 use cleanup::Cleanup;
 use handles::Handles;
 use kern_sync::KernSync;
@@ -93,79 +94,97 @@ fn queues_of(alloc: Global, all: &[Born], threads: &[ThreadNo]) -> Result<ReadyL
 }
 
 /// The handle tables, which are empty, and the lists of what each owes and has, which have nothing.
-fn empty_tables(alloc: Global, all: &[Born]) -> Result<(Items<Handles>, Cleanup), NoMemory>
+#[derive(Drop)]
+struct EmptyTables {
+    handles: Items<Handles>,
+    cleanup: Cleanup,
+}
+
+/// Makes those for each of the objects that stand.
+fn empty_tables(alloc: Global, all: &[Born]) -> Result<EmptyTables, NoMemory>
     requires { length all.now < 65536 }
-    ensures handles { IfOk result (λ made. slots_of made.0 ≡ map (λ _. replicate HANDLES fresh_slot) all.now) }
-    ensures cleanup { IfOk result (λ made. made.1 ≡ empty_lists (length all.now) OBJECTS) }
+    ensures handles { IfOk result (λ made. slots_of made.handles ≡ map (λ _. replicate HANDLES fresh_slot) all.now) }
+    ensures cleanup { IfOk result (λ made. made.cleanup ≡ empty_lists (length all.now) OBJECTS) }
 {
     let handles = fresh_handles(alloc, all)?;
     let cleanup = Cleanup::new(alloc, all.len() as u16, Limits::OBJECTS as u16)?;
-    Ok((handles, cleanup))
+    Ok(EmptyTables { handles, cleanup })
 }
 
-/// The threads' rows with the processes' memories, and the locks, which nobody owns or waits for.
-fn thread_tables(alloc: Global, all: &[Born]) -> Result<(Procs, KernSync), NoMemory>
+/// The threads' rows with the processes' memories, and the locks.
+#[derive(Drop)]
+struct ThreadTables {
+    procs: Procs,
+    locks: KernSync,
+}
+
+/// Makes those of the threads that stand: nobody owns or waits for a lock.
+fn thread_tables(alloc: Global, all: &[Born]) -> Result<ThreadTables, NoMemory>
     requires { length all.now ≤ BOOT_OBJECTS }
-    ensures { IfOk result (λ made. AreThreadTables (born_rows all.now) made.0 made.1) }
+    ensures { IfOk result (λ made. AreThreadTables (born_rows all.now) made.procs made.locks) }
 {
     let procs = procs_of(alloc, all)?;
     let locks = locks_of(alloc, all)?;
-    Ok((procs, locks))
+    Ok(ThreadTables { procs, locks })
 }
 
-/// The tables of threads that synchronize, of deferred function calls, and of requests: nothing is queued or asked for.
-fn call_tables(
-    alloc: Global,
-    script: &Script,
-    all: &[Born],
-) -> Result<(NanoSync, CallQueues, Requests), NoMemory>
+/// The tables of threads that synchronize, of deferred function calls, and of requests.
+#[derive(Drop)]
+struct CallTables {
+    nano: NanoSync,
+    deferred: CallQueues,
+    requests: Requests,
+}
+
+/// Makes those of the script: nothing is queued or asked for.
+fn call_tables(alloc: Global, script: &Script, all: &[Born]) -> Result<CallTables, NoMemory>
     requires shaped { IsShaped script.now }
     requires few { length all.now < 65536 }
-    ensures nano { IfOk result (λ made. made.0 ≡ nano_of script.now.fast all.now) }
-    ensures deferred { IfOk result (λ made. made.1 ≡ calls_of script.now) }
-    ensures requests { IfOk result (λ made. made.2 ≡ request_rows (length all.now) DEVICES) }
+    ensures nano { IfOk result (λ made. made.nano ≡ nano_of script.now.fast all.now) }
+    ensures deferred { IfOk result (λ made. made.deferred ≡ calls_of script.now) }
+    ensures requests { IfOk result (λ made. made.requests ≡ request_rows (length all.now) DEVICES) }
 {
     let nano = nano_of(alloc, script.fast, all)?;
     let deferred = CallQueues::new(alloc, script)?;
     let requests = requests_of(alloc, all)?;
-    Ok((nano, deferred, requests))
+    Ok(CallTables {
+        nano,
+        deferred,
+        requests,
+    })
 }
 
-/// The tables of what stands at boot, over its objects, its threads' rows and its locks.
-fn tables_over<W: RefWords + Drop>(
-    alloc: Global,
-    script: &Script,
-    all: &[Born],
-    objects: ObjectTable<W>,
-    procs: Procs,
-    locks: KernSync,
-) -> Result<Tables<W>, NoMemory>
+/// All tables but that of objects.
+#[derive(Drop)]
+struct OtherTables {
+    empty: EmptyTables,
+    threads: ThreadTables,
+    calls: CallTables,
+    serving: ServerTables,
+}
+
+/// Makes those that stand at boot.
+fn other_tables(alloc: Global, script: &Script, all: &[Born]) -> Result<OtherTables, NoMemory>
     requires shaped { IsShaped script.now }
-    requires few { length all.now < 65536 }
-    ensures objects { IfOk result (λ tables. tables.objects ≡ objects) }
-    ensures procs { IfOk result (λ tables. tables.procs ≡ procs) }
-    ensures locks { IfOk result (λ tables. tables.locks ≡ locks) }
-    ensures empty { IfOk result (λ tables. AreEmpty script.now all.now tables) }
+    requires few { length all.now ≤ BOOT_OBJECTS }
+    ensures threads { IfOk result (λ made. AreThreadTables (born_rows all.now) made.threads.procs made.threads.locks) }
+    ensures handles { IfOk result (λ made. slots_of made.empty.handles ≡ map (λ _. replicate HANDLES fresh_slot) all.now) }
+    ensures cleanup { IfOk result (λ made. made.empty.cleanup ≡ empty_lists (length all.now) OBJECTS) }
+    ensures nano { IfOk result (λ made. made.calls.nano ≡ nano_of script.now.fast all.now) }
+    ensures deferred { IfOk result (λ made. made.calls.deferred ≡ calls_of script.now) }
+    ensures requests { IfOk result (λ made. made.calls.requests ≡ request_rows (length all.now) DEVICES) }
+    ensures servers { IfOk result (λ made. made.serving.servers ≡ no_servers) }
+    ensures messages { IfOk result (λ made. made.serving.messages ≡ no_messages OBJECTS script.now.pool) }
 {
     let empty = empty_tables(alloc, all)?;
+    let threads = thread_tables(alloc, all)?;
     let calls = call_tables(alloc, script, all)?;
     let serving = server_tables(alloc, script)?;
-    Ok(Tables {
-        mode: Mode {
-            shared: false,
-            keep: false,
-            reuse: uses_again(script.version),
-        },
-        objects,
-        handles: empty.0,
-        procs,
-        locks,
-        cleanup: empty.1,
-        nano: calls.0,
-        deferred: calls.1,
-        requests: calls.2,
-        servers: serving.0,
-        messages: serving.1,
+    Ok(OtherTables {
+        empty,
+        threads,
+        calls,
+        serving,
     })
 }
 
@@ -180,9 +199,29 @@ fn tables_of<W: RefWords + Drop>(
     requires few { length all.now ≤ BOOT_OBJECTS }
     ensures { IfOk result (λ tables. AreTables script.now all.now objects tables) }
 {
-    let threads = thread_tables(alloc, all)?;
-    let tables = tables_over(alloc, script, all, objects, threads.0, threads.1)?;
-    Ok(tables)
+    let OtherTables {
+        empty,
+        threads,
+        calls,
+        serving,
+    } = other_tables(alloc, script, all)?;
+    Ok(Tables {
+        mode: Mode {
+            shared: false,
+            keep: false,
+            reuse: uses_again(script.version),
+        },
+        objects,
+        handles: empty.handles,
+        procs: threads.procs,
+        locks: threads.locks,
+        cleanup: empty.cleanup,
+        nano: calls.nano,
+        deferred: calls.deferred,
+        requests: calls.requests,
+        servers: serving.servers,
+        messages: serving.messages,
+    })
 }
 
 /// The tables at boot.

@@ -75,13 +75,20 @@ pub fn locks_of(alloc: Global, all: &[Born]) -> Result<KernSync, NoMemory>
     Ok(locks)
 }
 
+/// The tables of servers, with their sessions, and of messages.
+#[derive(Drop)]
+pub struct ServerTables {
+    pub servers: ServerTable,
+    pub messages: Messages,
+}
+
 /// There is no server and no session yet, and no message. The script's pool is the kernel's.
 #[tactic(auto, unfolding(crate::specs::BootTable::no_servers))]
-pub fn server_tables(alloc: Global, script: &Script) -> Result<(ServerTable, Messages), NoMemory>
-    ensures servers { IfOk result (λ made. made.0 ≡ no_servers) }
-    ensures messages { IfOk result (λ made. made.1 ≡ no_messages OBJECTS script.now.pool) }
+pub fn server_tables(alloc: Global, script: &Script) -> Result<ServerTables, NoMemory>
+    ensures servers { IfOk result (λ made. made.servers ≡ no_servers) }
+    ensures messages { IfOk result (λ made. made.messages ≡ no_messages OBJECTS script.now.pool) }
 {
     let servers = ServerTable::new(alloc, Limits::OBJECTS as u16)?;
     let messages = Messages::new(alloc, Limits::OBJECTS as u16, script.pool)?;
-    Ok((servers, messages))
+    Ok(ServerTables { servers, messages })
 }

@@ -31,7 +31,9 @@ fn load(alloc: Global, seed: u64, size: u32) -> Result<Summary, NoMemory>
     let script = make_script(alloc, seed, size)?;
     let slots = script.slots.len();
     let mut schedule = ScheduleRun::boot(alloc, script, PART)?;
-    Ok(summary_of(slots, &mut schedule))
+    let summary = summary_of(slots, &mut schedule);
+    drop(schedule);
+    Ok(summary)
 }
 
 /// Makes the script of a seed and a size, which is the number of each client's rounds, 1 to 500, runs it, and writes one

@@ -152,7 +152,9 @@ pub fn write_kernel<K: Sink, W: RefWords + Drop>(
     ensures fault { OnErr result (Rose (K.faults sink.old) (K.faults sink.new)) }
     ensures never_falls { K.faults sink.old ≤ K.faults sink.new }
 {
-    write_history(sink, detail, &kernel)
+    let written = write_history(sink, detail, &kernel);
+    drop(kernel);
+    written
 }
 
 /// Writes the one line of a refused script.
