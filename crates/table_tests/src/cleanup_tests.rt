@@ -27,4 +27,5 @@ fn a_thread_gives_up_mutexes_before_logons(rt: HostRuntime) {
         &rt,
         matches!(lists.first_owed(t), Some(Owed::Sweep(ObjNo(6)))),
     );
+    drop(lists);
 }

@@ -25,4 +25,5 @@ fn calls_run_by_priority_and_arrival(rt: HostRuntime) {
     expect_same(&rt, deferred.next_dfc(1), Some(0));
     expect_same(&rt, deferred.first_dfc(1), None);
     expect_same(&rt, deferred.first_dfc(0), Some(67));
+    drop(deferred);
 }

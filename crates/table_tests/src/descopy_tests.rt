@@ -129,6 +129,8 @@ fn a_read_goes_on_until_its_client_dies(rt: HostRuntime) {
     let last = read(&mut procs, &mut messages, job);
     expect_same(&rt, last, Some(Piece::Whole(100)));
     expect_same(&rt, procs.byte_at(OURS, 64), 65);
+    drop(procs);
+    drop(messages);
 }
 
 #[test]
@@ -157,6 +159,8 @@ fn a_descriptor_takes_no_more_than_it_may_have(rt: HostRuntime) {
     };
     let row = messages.row(MsgNo(1)).expect(&rt, "the message");
     expect_same(&rt, row.args[0], filled);
+    drop(procs);
+    drop(messages);
 }
 
 /// The first bytes of a process's memory.
@@ -186,4 +190,6 @@ fn a_piece_is_read_whole_before_it_is_written(rt: HostRuntime) {
     let whole = read(&mut procs, &mut messages, first_piece(4, 1));
     expect_same(&rt, whole, Some(Piece::Whole(4)));
     expect_same(&rt, first_bytes(&procs, OURS), [1, 1, 2, 3, 4, 0]);
+    drop(procs);
+    drop(messages);
 }

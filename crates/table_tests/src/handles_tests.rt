@@ -24,6 +24,7 @@ fn instances_count_from_1_again(rt: HostRuntime) {
     }
     expect_same(&rt, taken_and_freed(&mut table), Some(1_073_676_288));
     expect_same(&rt, taken_and_freed(&mut table), Some(65_536));
+    drop(table);
 }
 
 #[test]
@@ -45,4 +46,5 @@ fn a_thread_has_256_handles(rt: HostRuntime) {
     expect_same(&rt, table.remove(1_073_807_361), Some(ObjNo(8)));
     expect_same(&rt, table.next_of(1), Some((2, ObjNo(8))));
     expect_same(&rt, table.add(ObjNo(9)), Added::Handle(1_073_872_897));
+    drop(table);
 }

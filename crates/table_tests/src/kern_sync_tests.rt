@@ -28,4 +28,5 @@ fn waiters_are_served_by_priority(rt: HostRuntime) {
     expect_same(&rt, sync.sem_signal(semaphore), Signalled::Counted);
     sync.remove_waiter(a);
     expect_same(&rt, sync.count(semaphore), 1);
+    drop(sync);
 }

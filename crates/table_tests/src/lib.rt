@@ -1,4 +1,5 @@
-//! Tests of the crates of tables: worked examples of their calls.
+//! Tests of the crates of tables: worked examples of their calls. A test ends by `drop` of the tables that it owns: the
+//! checker goes through that once for each type, and not once more in each test.
 #![tactic(auto)]
 
 #[cfg(test)]

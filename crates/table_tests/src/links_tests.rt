@@ -15,4 +15,5 @@ fn nodes_leave_at_any_place(rt: HostRuntime) {
     expect_same(&rt, links.pop_front(1), Some(0));
     expect_same(&rt, links.pop_front(1), None);
     expect_that(&rt, !links.is_linked(3));
+    drop(links);
 }

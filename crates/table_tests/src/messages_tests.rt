@@ -38,6 +38,7 @@ fn messages_are_taken_in_order_and_finished_in_any(rt: HostRuntime) {
     expect_same(&rt, table.first_of(files), None);
     expect_that(&rt, table.row(MsgNo(1)).is_none());
     expect_same(&rt, table.first_of(fonts), Some(MsgNo(2)));
+    drop(table);
 }
 
 #[tactic(auto, unfolding(state_rows::specs::MessageRows::most_messages))]
@@ -58,6 +59,7 @@ fn a_sender_is_told_busy_when_all_slots_are_used(rt: HostRuntime) {
     table.accept(ObjNo(4), files, client, Slots::Pool, 1, ARGS, Way::Async(3));
     let of_pool = table.accept(ObjNo(6), files, client, Slots::Pool, 1, ARGS, Way::Async(4));
     expect_same(&rt, of_pool, Accepted::Busy { used: 1, slots: 1 });
+    drop(table);
 }
 
 #[tactic(auto, unfolding(state_rows::specs::MessageRows::most_messages))]
@@ -91,4 +93,5 @@ fn a_descriptor_gets_another_length(rt: HostRuntime) {
         row.args,
         [Arg::Number(7), Arg::Number(0), longer, Arg::Number(0)],
     );
+    drop(table);
 }

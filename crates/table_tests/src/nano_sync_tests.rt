@@ -26,4 +26,5 @@ fn threads_synchronize_by_counts_and_mutexes(rt: HostRuntime) {
     sync.signal(one);
     expect_that(&rt, sync.try_wait(one));
     expect_that(&rt, !sync.try_wait(one));
+    drop(sync);
 }

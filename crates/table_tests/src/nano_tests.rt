@@ -50,6 +50,7 @@ fn the_holder_of_a_fast_mutex_runs(rt: HostRuntime) {
     nano.tick();
     expect_that(&rt, nano.sync.give(low, 0));
     expect_that(&rt, matches!(nano.chosen(), Actor::Thread(ObjNo(3))));
+    drop(nano);
 }
 
 #[test]
@@ -72,6 +73,9 @@ fn interrupts_come_before_threads(rt: HostRuntime) {
     );
     expect_same(&rt, deferred.next_dfc(1), Some(1));
     expect_same(&rt, deferred.next_dfc(1), Some(0));
+    drop(ready);
+    drop(sync);
+    drop(deferred);
 }
 
 /// A queue with a call of it, an immediate call, and an interrupt that queues both.
@@ -102,4 +106,5 @@ fn makes_the_tables_of_a_nanokernel(rt: HostRuntime) {
     expect_same(&rt, nano.deferred.next_idfc(), Some(Item::Idfc(0)));
     expect_same(&rt, nano.deferred.next_idfc(), Some(Item::Move(0)));
     expect_same(&rt, nano.deferred.next_idfc(), None);
+    drop(nano);
 }

@@ -23,6 +23,7 @@ fn a_mutex_is_made_once(rt: HostRuntime) -> Result<(), Fail> {
     assert_eq!(rt; objects.find(Kind::Server, &name), None);
     assert!(rt; !objects.is_taken(Kind::Session, &name));
     assert_eq!(rt; objects.find(Kind::Session, &name), None);
+    drop(objects);
     Ok(())
 }
 
@@ -104,6 +105,7 @@ fn a_name_is_free_after_the_sweep(rt: HostRuntime) {
     expect_that(&rt, objects.row(ObjNo(0)).is_none());
     expect_that(&rt, !objects.is_taken(Kind::Mutex, &name));
     expect_same(&rt, objects.next(), 1);
+    drop(objects);
 }
 
 #[test]
@@ -113,4 +115,5 @@ fn a_number_is_used_again(rt: HostRuntime) {
     let mut objects = Objects::new(rt.alloc(), words, true).expect(&rt, "memory");
     expect_that(&rt, is_dead_then_swept(&mut objects, &name));
     expect_same(&rt, objects.next(), 0);
+    drop(objects);
 }

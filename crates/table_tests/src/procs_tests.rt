@@ -36,6 +36,7 @@ fn rows_keep_what_was_written(rt: HostRuntime) {
     expect_that(&rt, procs.thread(ObjNo(2)).is_none());
     expect_that(&rt, procs.is_process(ObjNo(2)));
     expect_that(&rt, !procs.is_process(ObjNo(81)));
+    drop(procs);
 }
 
 #[test]
@@ -60,4 +61,5 @@ fn reads_the_row_of_a_thread(rt: HostRuntime) {
         &rt,
         matches!(procs.noted(thread), Some(Exit { reason: 5, .. })),
     );
+    drop(procs);
 }

@@ -16,4 +16,5 @@ fn threads_run_by_priority_and_arrival(rt: HostRuntime) {
     expect_same(&rt, list.pick(), Some(ObjNo(3)));
     list.remove(ObjNo(3));
     expect_same(&rt, list.priority_of(ObjNo(3)), None);
+    drop(list);
 }

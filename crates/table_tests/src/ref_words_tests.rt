@@ -27,6 +27,7 @@ fn a_note_comes_back_to_an_object_in_use(rt: HostRuntime) {
     let mut words = PlainWords::new(rt.alloc(), 4).expect(&rt, "memory");
     expect_same(&rt, found_while_known(&mut words, 3), Found::Held);
     expect_same(&rt, words.close(3), Closed::Stays);
+    drop(words);
 }
 
 #[test]
@@ -36,4 +37,5 @@ fn a_note_comes_back_to_a_gone_object(rt: HostRuntime) {
     assert_eq!(rt; words.close(0), Closed::Last);
     let late = words.send_out(0);
     expect_same(&rt, words.take_back(late), Found::Dead);
+    drop(words);
 }

@@ -24,4 +24,5 @@ fn a_request_is_completed_and_another_cancelled(rt: HostRuntime) {
     expect_same(&rt, requests.begin(0, other, 4), Began::Begun);
     requests.drop_all(other);
     expect_same(&rt, requests.begin(0, one, 6), Began::Begun);
+    drop(requests);
 }

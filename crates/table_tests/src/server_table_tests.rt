@@ -32,4 +32,5 @@ fn sessions_go_in_order_of_making(rt: HostRuntime) {
     expect_same(&rt, table.row(early), row);
     table.sweep(early);
     expect_that(&rt, table.session_at(early).is_none());
+    drop(table);
 }
