@@ -163,7 +163,8 @@ struct OtherTables {
     serving: ServerTables,
 }
 
-/// Makes those that stand at boot.
+/// Makes those that stand at boot. It is taken into its caller, so that they are moved once less.
+#[inline(always)]
 fn other_tables(alloc: Global, script: &Script, all: &[Born]) -> Result<OtherTables, NoMemory>
     requires shaped { IsShaped script.now }
     requires few { length all.now ≤ BOOT_OBJECTS }
